@@ -1,0 +1,7 @@
+pub mod Bools
+pub mod Masks
+pub mod Shifts
+pub mod Fields
+pub mod Tests
+pub mod Assign
+pub mod Every
