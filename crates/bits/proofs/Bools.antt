@@ -38,3 +38,7 @@ clash e = let z : _≡_ {A = ℕ} 0 1 = cc in let no : ⊥ = omega arith in absu
 pub pick-both : {A : Type 0} (P : A → Type 0) (b : Bool) (x y : A) → (b ≡ true → P x) → (b ≡ false → P y) → P (pick b x y)
 pick-both P true x y p q = p refl
 pick-both P false x y p q = q refl
+
+pub or-true : (a : Bool) → (a || true) ≡ true
+or-true true = refl
+or-true false = refl

@@ -6,8 +6,10 @@ use Prim.Native.Nat.{ℕ, zero, suc, _+_, _<_, _≤_}
 use native.Mathlib.Nat.{add-zero, zero-add, add-suc, suc-add, le-of-suc-le-suc, not-suc-le-zero}
 use native.Mathlib.Numerals.{add-one}
 use native.Mathlib.Omega.{arith}
+use lib.Dec.{ltb}
 use lib.Seq.{drop-cons}
-use lib.ListN.{length, getD, set, drop}
+use borrow.Author.Tests.{ltb-true, ltb-false}
+use lib.ListN.{length, getD, set, drop, drop-of-length-le, List·getD-eq-default}
 use Rattle.bits.specs.Every.{every}
 use Rattle.bits.proofs.Bools.{and-left, and-right, both}
 
@@ -21,6 +23,14 @@ from f (x ∷ xs) i d t (suc k) h =
 
 pub every-at : {A : Type 0} (f : ℕ → A → Bool) (xs : List A) (d : A) → every f 0 xs ≡ true → (k : ℕ) → k < length xs → f k (getD xs k d) ≡ true
 every-at f xs d t k h = subst (λ (m : ℕ). f m (getD xs k d) ≡ true) (zero-add k) (from f xs 0 d t k h)
+
+-- and past the end too, if the default has it
+pub every-any : {A : Type 0} (f : ℕ → A → Bool) (xs : List A) (d : A) → every f 0 xs ≡ true → ((k : ℕ) → f k d ≡ true) → (k : ℕ) → f k (getD xs k d) ≡ true
+every-any f xs d t e k = at (ltb k (length xs)) refl
+  where
+    at : (b : Bool) → ltb k (length xs) ≡ b → f k (getD xs k d) ≡ true
+    at true p = every-at f xs d t k (ltb-true k (length xs) p)
+    at false p = rw (List·getD-eq-default xs d (ltb-false k (length xs) p)) (e k)
 
 set-from : {A : Type 0} (f : ℕ → A → Bool) (xs : List A) (i k : ℕ) (v : A) → every f i xs ≡ true → f (i + k) v ≡ true → every f i (set xs k v) ≡ true
 unfolding every
@@ -39,15 +49,9 @@ pub every-step : {A : Type 0} (f : ℕ → A → Bool) (xs : List A) (i : ℕ) (
 unfolding every
 every-step f xs i d h = rw (drop-cons xs i d h, add-one i)
 
-past : {A : Type 0} (l : List A) (k : ℕ) → length l ≤ k → drop k l ≡ []
-past [] zero h = refl
-past [] (suc k) h = refl
-past (x ∷ xs) zero h = absurd (not-suc-le-zero h)
-past (x ∷ xs) (suc k) h = past xs k (le-of-suc-le-suc h)
-
 pub every-end : {A : Type 0} (f : ℕ → A → Bool) (xs : List A) (i : ℕ) → length xs ≤ i → every f i (drop i xs) ≡ true
 unfolding every
-every-end f xs i h = rw (past xs i h)
+every-end f xs i h = rw (drop-of-length-le xs h)
 
 -- the same tests by index, n of them from place i: at a numeral n this unfolds to a straight line
 unfoldable pub all : {A : Type 0} → (ℕ → A → Bool) → List A → A → ℕ → ℕ → Bool

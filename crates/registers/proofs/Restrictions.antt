@@ -1,0 +1,45 @@
+-- Which registers have a restricted field: one computed test over the table. Assumes nothing.
+use mathlib.Core.Path.{_≡_, refl}
+use mathlib.Core.Bool.{Bool, true, false, _||_}
+use mathlib.Core.List.{[], _∷_}
+use mathlib.Core.Logic.{⊎-elim}
+use Prim.Native.Nat.{ℕ}
+use lib.Dec.{eqb}
+use borrow.Author.Tests.{eqb-true}
+use Rattle.bits.specs.Every.{every}
+use Rattle.bits.proofs.Bools.{clash, or-true, or-cases}
+use Rattle.bits.proofs.Every.{every-any}
+use Rattle.registers.specs.Fields.{MODE}
+use Rattle.registers.specs.Places.{mstatus, hgatp, satp, vsatp}
+use Rattle.registers.specs.Rules.{Restriction, free, only, ignores, stores-nothing}
+use Rattle.registers.specs.Table.{Register, register, registers, at}
+
+isFree : Restriction → Bool
+isFree free = true
+isFree (only f vs i) = false
+
+is-free : (r : Restriction) → isFree r ≡ true → r ≡ free
+unfolding isFree
+is-free free e = refl
+is-free (only f vs i) e = clash e
+
+abbrev restricted : ℕ → Bool
+restricted i = eqb i mstatus || (eqb i hgatp || (eqb i satp || eqb i vsatp))
+
+abbrev test : ℕ → Register → Bool
+test i r = restricted i || isFree (r .rule .restriction)
+
+all : every test 0 registers ≡ true
+unfolding every isFree
+all = refl
+
+other : (i : ℕ) → test i (register 0 0 stores-nothing) ≡ true
+unfolding isFree
+other i = or-true (restricted i)
+
+pub unrestricted : (i : ℕ) → eqb i mstatus ≡ false → eqb i hgatp ≡ false → (eqb i satp || eqb i vsatp) ≡ false → at i .rule .restriction ≡ free
+unrestricted i p q r = is-free (at i .rule .restriction) (simp (p, q, r) at (every-any test registers (register 0 0 stores-nothing) all other i))
+
+pub ignored-mode : (i : ℕ) → (eqb i satp || eqb i vsatp) ≡ true → at i .rule .restriction ≡ ignores MODE (0 ∷ 8 ∷ [])
+ignored-mode i t =
+    ⊎-elim (λ e. rw (eqb-true i satp e)) (λ e. rw (eqb-true i vsatp e)) (or-cases (eqb i satp) (eqb i vsatp) t)

@@ -1,0 +1,61 @@
+-- The rule of every row of the table: one computed test, and what it says of each register. Assumes nothing.
+use mathlib.Core.Path.{_≡_, refl, sym, ap, _∙_}
+use mathlib.Core.Bool.{Bool, true}
+use mathlib.Core.List.{List, [], _∷_, map}
+use mathlib.Core.Logic.{_↔_}
+use Prim.Native.Nat.{ℕ, suc, _+_, _^_, _-_, _<_}
+use native.Mathlib.Omega.{arith}
+use lib.Dec.{eqb, ltb}
+use lib.ListN.{getD, length, length-map, List·getD-map}
+use borrow.Author.Tests.{ltb-true}
+use Rattle.bits.specs.Field.{get, put}
+use Rattle.bits.specs.Every.{every}
+use Rattle.bits.proofs.Every.{every-any}
+use Rattle.bits.proofs.Tests.{fits}
+use Rattle.registers.specs.declared.table.Row.{Row}
+use Rattle.registers.specs.declared.table.Found.the-variants.{At, Nothing}
+use Rattle.registers.specs.Rules.{Rule, stored, legal, stores-nothing}
+use Rattle.registers.specs.Table.{Register, register, registers, at, rowOf, table, firstAt}
+use Rattle.registers.proofs.Legal.{sound, storedWhole, legal-exactly}
+use Rattle.registers.proofs.Search.{none, found}
+
+abbrev test : ℕ → Register → Bool
+test i r = sound (r .rule)
+
+all-sound : every test 0 registers ≡ true
+unfolding every sound storedWhole fits get put
+all-sound = refl
+
+other-sound : (i : ℕ) → test i (register 0 0 stores-nothing) ≡ true
+unfolding sound
+other-sound i = refl
+
+pub row-sound : (i : ℕ) → sound (at i .rule) ≡ true
+row-sound = every-any test registers (register 0 0 stores-nothing) all-sound other-sound
+
+-- of each register: a value passes exactly if some write to a register that passes stores it
+pub row-legal-exactly : (i x : ℕ) → x < 2 ^ 64 → (legal (at i .rule) x ≡ true) ↔ ((old : ℕ) × (w : ℕ) × (legal (at i .rule) old ≡ true) × (stored (at i .rule) old w ≡ x))
+row-legal-exactly i = legal-exactly (at i .rule) (row-sound i)
+
+-- the rows stand in rising order of number
+pub rising : every (λ i (r : Register). ltb (r .number) (at (suc i) .number)) 0 (lib.ListN.take 28 registers) ≡ true
+unfolding every
+rising = refl
+
+-- the VS registers are the same seven, seven rows further and 100 hex up
+pub same-seven : every (λ i (r : Register). eqb (at (i + 7) .number) (r .number + 0x100)) 0 (lib.ListN.take 7 registers) ≡ true
+unfolding every
+same-seven = refl
+
+-- what a lookup finds is a row of the table
+pub record Listed (n i : ℕ) (r : Row) : Type 0 where
+  pub below : i < 29
+  pub row : r ≡ rowOf (at i)
+  pub number : at i .number ≡ n
+
+pub lookup-found : (n i : ℕ) (r : Row) → firstAt table n 0 ≡ At i r → Listed n i r
+lookup-found n i r e =
+    let b = found table n 0 i r e in
+    let o : b .offset ≡ i = omega (arith, b .counted) in
+    let q : r ≡ rowOf (at i) = sym (b .here) ∙ List·getD-map rowOf registers (b .offset) (register 0 0 stores-nothing) ∙ ap (λ (j : ℕ). rowOf (at j)) o in
+    record { below = omega (arith, b .within); row = q; number = ap (λ (x : Row). x .number) (sym q) ∙ b .bears }

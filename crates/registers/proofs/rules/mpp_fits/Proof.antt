@@ -1,0 +1,12 @@
+use borrow.Author.Needs.{needs}
+use Rattle.registers.proofs.rules.mpp_fits.Statement.{statement}
+use Rattle.registers.proofs.rules.mpp_fits.Tie as tie
+
+get-requires : tie.Need-get-requires
+get-requires c κs = search needs
+
+returns : tie.Need-returns
+returns c = cc
+
+pub mpp-fits-spec : {M : Type 1} → statement M
+mpp-fits-spec = tie.close (tie.spec get-requires returns)

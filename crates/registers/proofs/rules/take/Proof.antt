@@ -1,0 +1,67 @@
+use borrow.Author.Needs.{needs}
+use borrow.Author.Tests.{ne-eqb}
+use Rattle.registers.proofs.Restrictions.{unrestricted, ignored-mode}
+use Rattle.registers.proofs.rules.take.Statement.{statement}
+use Rattle.registers.proofs.rules.take.Tie as tie
+
+mpp-fits-requires : tie.Need-mpp-fits-requires
+mpp-fits-requires c κs = search needs
+
+get-requires : tie.Need-get-requires
+get-requires c κs = search needs
+
+put-requires : tie.Need-put-requires
+put-requires c κs = search needs
+
+select-requires : tie.Need-select-requires
+select-requires c κs = search needs
+
+returns : tie.Need-returns
+returns c = rw (c .before .before .before .before .if1 .taken) (cc)
+
+mode-fits-requires : tie.Need-mode-fits-requires
+mode-fits-requires c κs = search needs
+
+get-requires-2 : tie.Need-get-requires-2
+get-requires-2 c κs = search needs
+
+put-requires-2 : tie.Need-put-requires-2
+put-requires-2 c κs = search needs
+
+select-requires-2 : tie.Need-select-requires-2
+select-requires-2 c κs = search needs
+
+returns-2 : tie.Need-returns-2
+returns-2 c = rw (c .before .before .before .before .if2 .taken) (cc)
+
+mode-fits-requires-2 : tie.Need-mode-fits-requires-2
+mode-fits-requires-2 c κs = search needs
+
+select-requires-3 : tie.Need-select-requires-3
+select-requires-3 c κs = search needs
+
+returns-3 : tie.Need-returns-3
+returns-3 c = rw (ignored-mode (c .before .before .before .before .before .args .place) (c .before .before .if3 .taken)) (cc)
+
+returns-4 : tie.Need-returns-4
+returns-4 c =
+    rw (unrestricted (c .before .before .before .args .place) (ne-eqb _ _ (c .before .before .if1 .left)) (ne-eqb _ _ (c .before .if2 .left)) (c .if3 .left))
+
+pub take-spec : {M : Type 1} → statement M
+take-spec =
+    tie.close
+    (tie.spec
+    mpp-fits-requires
+    get-requires
+    put-requires
+    select-requires
+    returns
+    mode-fits-requires
+    get-requires-2
+    put-requires-2
+    select-requires-2
+    returns-2
+    mode-fits-requires-2
+    select-requires-3
+    returns-3
+    returns-4)

@@ -1,0 +1,60 @@
+use Prim.Native.Nat.{ℕ, _≤_, _<_, _-_}
+use mathlib.Core.Path.{_≡_, refl, sym, _∙_, ap}
+use native.Mathlib.Omega.{arith}
+use native.Mathlib.Numerals.{add-one}
+use lib.ListN.{length, getD, drop}
+use lib.Seq.{drop-cons}
+use borrow.Author.Needs.{needs}
+use borrow.Author.Tests.{eq-eqb, ne-eqb}
+use Rattle.registers.specs.Table.{firstAt}
+use Rattle.registers.proofs.Search.{first-here, first-next, first-end}
+use Rattle.registers.proofs.table.find.Statement.{statement}
+use Rattle.registers.proofs.table.find.Tie as tie
+
+abbrev Inv-loop : tie.InvT-loop
+Inv-loop n table i₀ i = (i ≤ 29) × (firstAt table n 0 ≡ firstAt (drop i table) n i)
+
+abbrev μ-loop : tie.MeasureT-loop
+μ-loop n table i₀ i = 29 - i
+
+length-is : (c : tie.After-loop Inv-loop μ-loop) → length (c .before .before .args .t1) ≡ 29
+length-is c = search needs
+
+loop-holds : tie.Need-loop-holds Inv-loop μ-loop
+loop-holds c = (search needs, refl)
+
+mul-row : tie.Need-mul-row Inv-loop μ-loop
+mul-row c = search needs
+
+array-copy-out-row : tie.Need-array-copy-out-row Inv-loop μ-loop
+array-copy-out-row c = search needs
+
+returns : tie.Need-returns Inv-loop μ-loop
+returns c = sym (c .before .before .before .before .loop .inv .1 ∙ first-here (c .before .before .before .before .before .args .t1) _ _ (search needs) (c .if1 .taken))
+
+add-i : tie.Need-add-i Inv-loop μ-loop
+add-i c = search needs
+
+loop-less : tie.Need-loop-less Inv-loop μ-loop
+loop-less c = search needs
+
+loop-again : tie.Need-loop-again Inv-loop μ-loop
+loop-again c = (search needs, c .before .before .before .before .loop .inv .1 ∙ first-next (c .before .before .before .before .before .args .t1) _ _ (search needs) (c .if1 .left))
+
+returns-2 : tie.Need-returns-2 Inv-loop μ-loop
+returns-2 c = sym (c .before .loop .inv .1 ∙ first-end (c .before .before .args .t1) _ (c .before .loop .i) (omega (arith, length-is c)))
+
+pub find-spec : {M : Type 1} → statement M
+find-spec =
+    tie.close
+    (tie.spec
+    Inv-loop
+    μ-loop
+    loop-holds
+    mul-row
+    array-copy-out-row
+    returns
+    add-i
+    loop-less
+    loop-again
+    returns-2)

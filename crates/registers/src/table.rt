@@ -1,0 +1,252 @@
+// The table of registers, in rising order of number, and its search.
+ghost use mathlib.Core.Path.{_≡_};
+ghost use Rattle.registers.specs.Table.{firstAt, table};
+use crate::masks;
+
+// The level that a number belongs to: S; VS and H; M.
+pub const SUPERVISOR: u64 = 1;
+
+pub const HYPERVISOR: u64 = 2;
+
+pub const MACHINE: u64 = 3;
+
+pub struct Row {
+    pub number: u64,
+    pub level: u64,
+    pub read_only: bool,
+    pub mask: u64,
+}
+
+// What a search finds: a place and the row that stands there.
+pub enum Found {
+    At(usize, Row),
+    Nothing,
+}
+
+pub const TABLE: [Row; 29] = [
+    // sstatus
+    Row {
+        number: 0x100,
+        level: SUPERVISOR,
+        read_only: false,
+        mask: masks::STATUS,
+    },
+    // stvec
+    Row {
+        number: 0x105,
+        level: SUPERVISOR,
+        read_only: false,
+        mask: masks::TVEC,
+    },
+    // sscratch
+    Row {
+        number: 0x140,
+        level: SUPERVISOR,
+        read_only: false,
+        mask: masks::WORD,
+    },
+    // sepc
+    Row {
+        number: 0x141,
+        level: SUPERVISOR,
+        read_only: false,
+        mask: masks::EPC,
+    },
+    // scause
+    Row {
+        number: 0x142,
+        level: SUPERVISOR,
+        read_only: false,
+        mask: masks::WORD,
+    },
+    // stval
+    Row {
+        number: 0x143,
+        level: SUPERVISOR,
+        read_only: false,
+        mask: masks::WORD,
+    },
+    // satp
+    Row {
+        number: 0x180,
+        level: SUPERVISOR,
+        read_only: false,
+        mask: masks::WORD,
+    },
+    // vsstatus
+    Row {
+        number: 0x200,
+        level: HYPERVISOR,
+        read_only: false,
+        mask: masks::STATUS,
+    },
+    // vstvec
+    Row {
+        number: 0x205,
+        level: HYPERVISOR,
+        read_only: false,
+        mask: masks::TVEC,
+    },
+    // vsscratch
+    Row {
+        number: 0x240,
+        level: HYPERVISOR,
+        read_only: false,
+        mask: masks::WORD,
+    },
+    // vsepc
+    Row {
+        number: 0x241,
+        level: HYPERVISOR,
+        read_only: false,
+        mask: masks::EPC,
+    },
+    // vscause
+    Row {
+        number: 0x242,
+        level: HYPERVISOR,
+        read_only: false,
+        mask: masks::WORD,
+    },
+    // vstval
+    Row {
+        number: 0x243,
+        level: HYPERVISOR,
+        read_only: false,
+        mask: masks::WORD,
+    },
+    // vsatp
+    Row {
+        number: 0x280,
+        level: HYPERVISOR,
+        read_only: false,
+        mask: masks::WORD,
+    },
+    // mstatus
+    Row {
+        number: 0x300,
+        level: MACHINE,
+        read_only: false,
+        mask: masks::MSTATUS,
+    },
+    // medeleg
+    Row {
+        number: 0x302,
+        level: MACHINE,
+        read_only: false,
+        mask: masks::MEDELEG,
+    },
+    // mtvec
+    Row {
+        number: 0x305,
+        level: MACHINE,
+        read_only: false,
+        mask: masks::TVEC,
+    },
+    // mscratch
+    Row {
+        number: 0x340,
+        level: MACHINE,
+        read_only: false,
+        mask: masks::WORD,
+    },
+    // mepc
+    Row {
+        number: 0x341,
+        level: MACHINE,
+        read_only: false,
+        mask: masks::EPC,
+    },
+    // mcause
+    Row {
+        number: 0x342,
+        level: MACHINE,
+        read_only: false,
+        mask: masks::WORD,
+    },
+    // mtval
+    Row {
+        number: 0x343,
+        level: MACHINE,
+        read_only: false,
+        mask: masks::WORD,
+    },
+    // mtinst
+    Row {
+        number: 0x34a,
+        level: MACHINE,
+        read_only: false,
+        mask: masks::WORD,
+    },
+    // mtval2
+    Row {
+        number: 0x34b,
+        level: MACHINE,
+        read_only: false,
+        mask: masks::WORD,
+    },
+    // hstatus
+    Row {
+        number: 0x600,
+        level: HYPERVISOR,
+        read_only: false,
+        mask: masks::HSTATUS,
+    },
+    // hedeleg
+    Row {
+        number: 0x602,
+        level: HYPERVISOR,
+        read_only: false,
+        mask: masks::HEDELEG,
+    },
+    // htval
+    Row {
+        number: 0x643,
+        level: HYPERVISOR,
+        read_only: false,
+        mask: masks::WORD,
+    },
+    // htinst
+    Row {
+        number: 0x64a,
+        level: HYPERVISOR,
+        read_only: false,
+        mask: masks::WORD,
+    },
+    // hgatp
+    Row {
+        number: 0x680,
+        level: HYPERVISOR,
+        read_only: false,
+        mask: masks::HGATP,
+    },
+    // hgeip
+    Row {
+        number: 0xe12,
+        level: HYPERVISOR,
+        read_only: true,
+        mask: masks::NOTHING,
+    },
+];
+
+// The first row that bears the number n, in a table as long as ours.
+pub fn find(table: [Row; 29], n: u64) -> Found
+    ensures { λ r. ⌜ r ≡ firstAt table n 0 ⌝ }
+{
+    let mut i: usize = 0;
+    while i < 29 {
+        let row = table[i];
+        if row.number == n {
+            return Found::At(i, row);
+        }
+        i += 1;
+    }
+    Found::Nothing
+}
+
+// The register with the number n.
+pub fn lookup(n: u64) -> Found
+    ensures { λ r. ⌜ r ≡ firstAt table n 0 ⌝ }
+{
+    find(TABLE, n)
+}
