@@ -1,0 +1,15 @@
+use borrow.Author.Needs.{needs}
+use Rattle.privilege.proofs.traps.wrong_flag.Statement.{statement}
+use Rattle.privilege.proofs.traps.wrong_flag.Tie as tie
+
+never-flagged-requires : tie.Need-never-flagged-requires
+never-flagged-requires c κs = search needs
+
+is-guest-page-requires : tie.Need-is-guest-page-requires
+is-guest-page-requires c κs = search needs
+
+returns : tie.Need-returns
+returns c = cc
+
+pub wrong-flag-spec : {M : Type 1} → statement M
+wrong-flag-spec = tie.close (tie.spec never-flagged-requires is-guest-page-requires returns)

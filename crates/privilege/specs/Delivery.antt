@@ -1,0 +1,14 @@
+-- Where a trap goes (document 01, "Delivery").
+use mathlib.Core.Bool.{_&&_, _||_, not}
+use Prim.Native.Nat.{ℕ}
+use lib.Dec.{eqb}
+use Rattle.bits.specs.Field.{pick, has}
+use Rattle.privilege.specs.declared.mode.Context.{Context}
+use Rattle.privilege.specs.declared.traps.Target.{Target}
+use Rattle.privilege.specs.declared.traps.Target.the-variants.{M, HS, VS}
+use Rattle.privilege.specs.Mode.{isM}
+
+-- from M to M; otherwise to M if medeleg's bit for the cause is 0; else to VS if V=1 and hedeleg's bit is 1; else to HS
+abbrev pub target : Context → (medeleg hedeleg cause : ℕ) → Target
+target c medeleg hedeleg cause =
+    pick (isM c || not (has cause medeleg)) M (pick (eqb (c .v) 1 && has cause hedeleg) VS HS)

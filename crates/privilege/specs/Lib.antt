@@ -1,0 +1,5 @@
+pub mod Mode
+pub mod Instructions
+pub mod Access
+pub mod Request
+pub mod Delivery

@@ -1,0 +1,31 @@
+-- Five modes: U, HS, M (V=0) and VU, VS (V=1) (document 01).
+use mathlib.Core.Bool.{Bool, _&&_}
+use Prim.Native.Nat.{ℕ}
+use lib.Dec.{eqb}
+use Rattle.bits.specs.declared.Field.{Field}
+use Rattle.bits.specs.Field.{get}
+use Rattle.privilege.specs.declared.mode.Context.{Context}
+use Rattle.privilege.specs.declared.mode.Verdict.{Verdict}
+
+abbrev pub isU : Context → Bool
+isU c = eqb (c .v) 0 && eqb (c .privilege) 0
+
+abbrev pub isHS : Context → Bool
+isHS c = eqb (c .v) 0 && eqb (c .privilege) 1
+
+abbrev pub isM : Context → Bool
+isM c = eqb (c .v) 0 && eqb (c .privilege) 3
+
+abbrev pub isVU : Context → Bool
+isVU c = eqb (c .v) 1 && eqb (c .privilege) 0
+
+abbrev pub isVS : Context → Bool
+isVS c = eqb (c .v) 1 && eqb (c .privilege) 1
+
+-- a control's bit is 1
+abbrev pub isSet : Field → ℕ → Bool
+isSet f x = eqb (get f x) 1
+
+-- an instruction gives 2 where the first holds, else 22 where the second does
+abbrev pub verdict : Bool → Bool → Verdict
+verdict a b = record { gives2 = a; gives22 = b }

@@ -1,0 +1,21 @@
+use borrow.Author.Needs.{needs}
+use Rattle.status.proofs.leave_s.Statement.{statement}
+use Rattle.status.proofs.leave_s.Tie as tie
+
+get-requires : tie.Need-get-requires
+get-requires c κs = search needs
+
+put-requires : tie.Need-put-requires
+put-requires c κs = search needs
+
+put-requires-2 : tie.Need-put-requires-2
+put-requires-2 c κs = search needs
+
+put-requires-3 : tie.Need-put-requires-3
+put-requires-3 c κs = search needs
+
+returns : tie.Need-returns
+returns c = cc
+
+pub leave-s-spec : {M : Type 1} → statement M
+leave-s-spec = tie.close (tie.spec get-requires put-requires put-requires-2 put-requires-3 returns)

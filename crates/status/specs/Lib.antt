@@ -1,0 +1,2 @@
+pub mod Trap
+pub mod Return
