@@ -68,3 +68,6 @@ pub const STATUS_FIXED: u64 = 2 << UXL.low;
 pub const MSTATUS_FIXED: u64 = 2 << UXL.low | 2 << SXL.low;
 
 pub const HSTATUS_FIXED: u64 = 2 << VSXL.low;
+
+// what sstatus shows of mstatus
+pub const SSTATUS: u64 = STATUS | 3 << UXL.low;

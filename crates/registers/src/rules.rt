@@ -1,15 +1,17 @@
 // What a register can hold, and what goes into it of a write.
 ghost use mathlib.Core.Path.{_≡_};
+ghost use mathlib.Core.Bool.{_&&_};
 ghost use mathlib.Core.List.{[], _∷_};
 ghost use Prim.Native.Nat.{_-_};
 ghost use lib.Bits.{bitAnd};
 ghost use lib.Dec.{eqb};
 ghost use Rattle.bits.specs.Field.{top, get};
 ghost use Rattle.registers.specs.Fields.{MPP, MODE};
-ghost use Rattle.registers.specs.Rules.{among, taken};
+ghost use Rattle.registers.specs.Rules.{among, taken, legal, stores-mstatus, stores-status, stores-hstatus, stores-hedeleg, stores-medeleg, stores-tvec, stores-epc, stores-satp, stores-hgatp};
 ghost use Rattle.registers.specs.Table.{at};
 use crate::fields::MODE;
 use crate::fields::MPP;
+use crate::masks;
 use crate::places::HGATP;
 use crate::places::MSTATUS;
 use crate::places::SATP;
@@ -52,4 +54,37 @@ pub fn take(place: usize, old: u64, w: u64) -> u64
         return bits::select(mode_fits(w), w, old);
     }
     w
+}
+
+// The S registers that can't hold every word; vsatp and the others of VS alike.
+pub fn supervisor_legal(tvec: u64, epc: u64, satp: u64) -> bool
+    ensures { λ r. ⌜ r ≡ (legal stores-tvec tvec && (legal stores-epc epc && legal stores-satp satp)) ⌝ }
+{
+    let modes = mode_fits(satp) & within(masks::WORD, 0, satp);
+    within(masks::TVEC, 0, tvec) & (within(masks::EPC, 0, epc) & modes)
+}
+
+// The M registers that can't hold every word.
+pub fn machine_legal(mstatus: u64, medeleg: u64, tvec: u64, epc: u64) -> bool
+    ensures { λ r. ⌜ r ≡ (legal stores-mstatus mstatus && (legal stores-medeleg medeleg && (legal stores-tvec tvec && legal stores-epc epc))) ⌝ }
+{
+    let status = mpp_fits(mstatus) & within(masks::MSTATUS, masks::MSTATUS_FIXED, mstatus);
+    let vectors = within(masks::TVEC, 0, tvec) & within(masks::EPC, 0, epc);
+    status & (within(masks::MEDELEG, 0, medeleg) & vectors)
+}
+
+// The H registers that can't hold every word.
+pub fn hypervisor_legal(hstatus: u64, hedeleg: u64, hgatp: u64) -> bool
+    ensures { λ r. ⌜ r ≡ (legal stores-hstatus hstatus && (legal stores-hedeleg hedeleg && legal stores-hgatp hgatp)) ⌝ }
+{
+    let modes = mode_fits(hgatp) & within(masks::HGATP, 0, hgatp);
+    within(masks::HSTATUS, masks::HSTATUS_FIXED, hstatus)
+        & (within(masks::HEDELEG, 0, hedeleg) & modes)
+}
+
+// vsstatus.
+pub fn status_legal(status: u64) -> bool
+    ensures { λ r. ⌜ r ≡ legal stores-status status ⌝ }
+{
+    within(masks::STATUS, masks::STATUS_FIXED, status)
 }

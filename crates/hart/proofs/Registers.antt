@@ -1,0 +1,47 @@
+-- The test of all registers as a straight line: those that hold every word ask nothing. Assumes nothing.
+use mathlib.Core.Path.{_≡_, refl, ap, _∙_}
+use mathlib.Core.Bool.{Bool, true, false, _&&_}
+use mathlib.Core.List.{List}
+use Prim.Native.Nat.{ℕ, _-_}
+use lib.Bits.{bitAnd, and-zero-r}
+use lib.Dec.{eqb}
+use lib.ListN.{getD, length}
+use Rattle.bits.specs.Field.{top}
+use Rattle.bits.specs.Every.{every}
+use Rattle.bits.proofs.Bools.{and-assoc}
+use Rattle.bits.proofs.Every.{all, every-all}
+use Rattle.registers.specs.Places.{sstatus, stvec, sepc, satp, vsstatus, vstvec, vsepc, vsatp, mstatus, medeleg, mtvec, mepc, hstatus, hedeleg, hgatp, hgeip}
+use Rattle.registers.specs.Rules.{legal, stores-word, stores-nothing, stores-status, stores-mstatus, stores-hstatus, stores-hedeleg, stores-medeleg, stores-tvec, stores-epc, stores-satp, stores-hgatp}
+use Rattle.hart.specs.Hart.{holds}
+
+and-true : (a : Bool) → (a && true) ≡ a
+and-true true = refl
+and-true false = refl
+
+word-legal : (x : ℕ) → legal stores-word x ≡ true
+unfolding legal
+word-legal x = rw (and-zero-r x)
+
+nothing-legal : (x : ℕ) → legal stores-nothing x ≡ eqb (bitAnd x (top - 0)) 0
+unfolding legal
+nothing-legal x = refl
+
+module _ (rs : List ℕ) where
+  abbrev r : ℕ → ℕ
+  r i = getD rs i 0
+
+  abbrev supervisorLegal : Bool
+  supervisorLegal = legal stores-tvec (r stvec) && (legal stores-epc (r sepc) && legal stores-satp (r satp))
+
+  abbrev guestLegal : Bool
+  guestLegal = legal stores-status (r vsstatus) && (legal stores-tvec (r vstvec) && (legal stores-epc (r vsepc) && legal stores-satp (r vsatp)))
+
+  abbrev machineLegal : Bool
+  machineLegal = legal stores-mstatus (r mstatus) && (legal stores-medeleg (r medeleg) && (legal stores-tvec (r mtvec) && legal stores-epc (r mepc)))
+
+  abbrev hypervisorLegal : Bool
+  hypervisorLegal = legal stores-hstatus (r hstatus) && (legal stores-hedeleg (r hedeleg) && legal stores-hgatp (r hgatp))
+
+  pub straight : length rs ≡ 29 → every holds 0 rs ≡ (eqb (r sstatus) 0 && (supervisorLegal && (guestLegal && (machineLegal && (hypervisorLegal && eqb (bitAnd (r hgeip) (top - 0)) 0)))))
+  unfolding all
+  straight n = every-all holds rs 0 29 0 n ∙ simp (word-legal, nothing-legal, and-assoc, and-true)

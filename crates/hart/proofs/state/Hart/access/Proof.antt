@@ -1,0 +1,51 @@
+use mathlib.Core.Path.{sym, _∙_}
+use Rattle.hart.specs.Access.{access}
+use Rattle.registers.proofs.Rows.{lookup-found}
+use borrow.Author.Needs.{needs}
+use Rattle.hart.proofs.state.Hart.access.Statement.{statement}
+use Rattle.hart.proofs.state.Hart.access.Tie as tie
+
+select-requires : tie.Need-select-requires
+select-requires c κs = search needs
+
+lookup-requires : tie.Need-lookup-requires
+lookup-requires c κs = search needs
+
+enum-known-found : tie.Need-enum-known-found
+enum-known-found c = search needs
+
+enum-told : tie.Need-enum-told
+enum-told c = search needs
+
+settle-requires : tie.Need-settle-requires
+settle-requires c κs = search needs
+
+answer-requires : tie.Need-answer-requires
+answer-requires c κs = search needs
+
+returns : tie.Need-returns
+unfolding access
+returns c = rw (c .answer .ensures, c .before .settle .ensures, c .before .before .before .before .before .select .ensures, sym (c .before .before .before .before .lookup .ensures) ∙ c .before .before .enum-told .given .1)
+
+access-row-requires : tie.Need-access-row-requires
+access-row-requires c κs =
+    let l = lookup-found _ _ _ (sym (c .before .before .before .lookup .ensures) ∙ c .before .found .given .1) in
+    (l .below, l .row)
+
+returns-2 : tie.Need-returns-2
+unfolding access
+returns-2 c = rw (c .access-row .ensures, c .before .before .before .before .before .select .ensures, sym (c .before .before .before .before .lookup .ensures) ∙ c .before .before .found .given .1)
+
+pub access-spec : {M : Type 1} → statement M
+access-spec =
+    tie.close
+    (tie.spec
+    select-requires
+    lookup-requires
+    enum-known-found
+    enum-told
+    settle-requires
+    answer-requires
+    returns
+    access-row-requires
+    returns-2)

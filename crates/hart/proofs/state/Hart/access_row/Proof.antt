@@ -1,0 +1,49 @@
+use mathlib.Core.Path.{sym}
+use Rattle.hart.specs.Access.{accessRow}
+use Rattle.hart.proofs.Reach.{reached-bound, reached-mask}
+use borrow.Author.Needs.{needs}
+use Rattle.hart.proofs.state.Hart.access_row.Statement.{statement}
+use Rattle.hart.proofs.state.Hart.access_row.Tie as tie
+
+context-requires : tie.Need-context-requires
+context-requires c κs = search needs
+
+access-requires : tie.Need-access-requires
+access-requires c κs = search needs
+
+reached-requires : tie.Need-reached-requires
+reached-requires c κs = search needs
+
+seen-requires : tie.Need-seen-requires
+seen-requires c κs = rw (c .reached .ensures, c .before .before .before .pre .1) (reached-bound (c .before .before .before .args .self .v) (c .before .before .before .args .place) (c .before .before .before .pre .0))
+
+combine-requires : tie.Need-combine-requires
+combine-requires c κs = search needs
+
+written-requires : tie.Need-written-requires
+written-requires c κs = (rw (c .before .before .reached .ensures, c .before .before .before .before .before .pre .1) (reached-bound (c .before .before .before .before .before .args .self .v) (c .before .before .before .before .before .args .place) (c .before .before .before .before .before .pre .0)), rw (c .before .before .reached .ensures, c .before .before .before .before .before .pre .1) (sym (reached-mask (c .before .before .before .before .before .args .self .v) (c .before .before .before .before .before .args .place))))
+
+settle-requires : tie.Need-settle-requires
+settle-requires c κs = search needs
+
+answer-requires : tie.Need-answer-requires
+answer-requires c κs = search needs
+
+returns : tie.Need-returns
+unfolding accessRow
+returns c = rw
+    (c .answer .ensures, c .before .settle .ensures, c .before .before .written .ensures, c .before .before .before .combine .ensures, c .before .before .before .before .seen .ensures, c .before .before .before .before .before .reached .ensures, c .before .before .before .before .before .before .access .ensures, c .before .before .before .before .before .before .before .context .ensures)
+
+pub access-row-spec : {M : Type 1} → statement M
+access-row-spec =
+    tie.close
+    (tie.spec
+    context-requires
+    access-requires
+    reached-requires
+    seen-requires
+    combine-requires
+    written-requires
+    settle-requires
+    answer-requires
+    returns)

@@ -1,0 +1,92 @@
+-- Register access (document 01, "Access").
+use mathlib.Core.Bool.{Bool, true, false, _&&_}
+use mathlib.Core.List.{List, [], _∷_}
+use Prim.Native.Nat.{ℕ, _+_, _-_}
+use lib.Bits.{bitAnd, bitOr}
+use lib.Dec.{eqb, ltb}
+use lib.ListN as list
+use Rattle.bits.specs.Field.{pick, top, bits}
+use Rattle.registers.specs.declared.table.Row.{Row}
+use Rattle.registers.specs.declared.table.Found.{Found}
+use Rattle.registers.specs.declared.table.Found.the-variants.{At, Nothing}
+use Rattle.registers.specs.Fields.{SIE, SPIE, SPP, SUM, MXR, UXL}
+use Rattle.registers.specs.Places.{sstatus, mstatus}
+use Rattle.registers.specs.Rules.{stored}
+use Rattle.registers.specs.Table.{supervisor, at, table, firstAt}
+use Rattle.privilege.specs.Mode.{verdict}
+use Rattle.privilege.specs.Access as permission
+use Rattle.hart.specs.declared.state.Hart.{Hart}
+use Rattle.hart.specs.declared.event.Outcome.{Outcome}
+use Rattle.hart.specs.declared.event.Outcome.the-variants.{Done, Trapped, Refused}
+use Rattle.hart.specs.declared.event.Step.{Step}
+use Rattle.hart.specs.declared.access.Form.{Form}
+use Rattle.hart.specs.declared.access.Form.the-variants.{Read, Write, Set, Clear}
+use Rattle.hart.specs.declared.access.Accessed.{Accessed}
+use Rattle.hart.specs.Hart.{reg, context}
+use Rattle.hart.specs.Event.{done, settled, next}
+
+-- read, write, set or clear: what is written where old is seen
+abbrev pub combined : Form → ℕ → ℕ → ℕ
+combined Read old w = old
+combined Write old w = w
+combined Set old w = bitOr old w
+combined Clear old w = bitAnd old (top - w)
+
+-- all answer the old value, a trap or refusal answers 0
+abbrev pub valueOf : Outcome → ℕ → ℕ
+valueOf Done old = old
+valueOf (Trapped cause) old = 0
+valueOf (Refused number) old = 0
+
+abbrev pub answer : Step → ℕ → Accessed
+answer s old = record { hart = s .hart; outcome = s .outcome; value = valueOf (s .outcome) old }
+
+-- in VS an S number reaches its VS register: the same seven, seven places further
+abbrev pub reached : (v level place : ℕ) → ℕ
+reached v level place = pick (eqb v 1 && eqb level supervisor) (place + 7) place
+
+-- sstatus is mstatus's SIE, SPIE, SPP, SUM, MXR and UXL
+abbrev pub seen : Hart → ℕ → ℕ
+seen h place = pick (eqb place sstatus) (bitAnd (reg h mstatus) (bits (SIE ∷ SPIE ∷ SPP ∷ SUM ∷ MXR ∷ UXL ∷ []))) (reg h place)
+
+-- where a register's bits are kept
+abbrev pub home : ℕ → ℕ
+home place = pick (eqb place sstatus) mstatus place
+
+-- a done access: the register written, if the access writes, and pc moved on by 4, wrapping
+unfoldable pub written : Hart → ℕ → ℕ → Bool → Hart
+written h place x writes = record {
+  v = h .v;
+  privilege = h .privilege;
+  pc = next (h .pc);
+  regs = pick writes (list.set (h .regs) (home place) (stored (at place .rule) (reg h (home place)) x)) (h .regs);
+}
+
+-- an access to the register of a row; own is the call's own refusal, or 0
+unfoldable pub accessRow : Hart → ℕ → ℕ → Row → Form → ℕ → Bool → Accessed
+accessRow h own place row form w writes =
+    let to : ℕ = reached (h .v) (row .level) place in
+    let old : ℕ = seen h to in
+    answer (settled h own (permission.access (context h) place row writes) (done (written h to (combined form old w) writes))) old
+
+-- an unlisted number: cause 2 in every mode
+abbrev pub accessFound : Found → Hart → ℕ → Form → ℕ → Bool → Accessed
+accessFound Nothing h own form w writes = answer (settled h own (verdict true false) (done h)) 0
+accessFound (At place row) h own form w writes = accessRow h own place row form w writes
+
+-- refusal 5: register number over 4095
+unfoldable pub access : Hart → Form → ℕ → ℕ → Bool → Accessed
+access h form number w writes = accessFound (firstAt table number 0) h (pick (ltb 4095 number) 5 0) form w writes
+
+abbrev pub read : Hart → ℕ → Accessed
+read h number = access h Read number 0 false
+
+abbrev pub write : Hart → ℕ → ℕ → Accessed
+write h number w = access h Write number w true
+
+-- the last two with a flag saying whether they write
+abbrev pub set : Hart → ℕ → ℕ → Bool → Accessed
+set h number w writes = access h Set number w writes
+
+abbrev pub clear : Hart → ℕ → ℕ → Bool → Accessed
+clear h number w writes = access h Clear number w writes

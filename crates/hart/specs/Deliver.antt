@@ -1,0 +1,58 @@
+-- Delivery of a trap (document 01, "Delivery").
+use mathlib.Core.List.{List, [], _∷_}
+use Prim.Native.Nat.{ℕ, _%_, _-_}
+use Rattle.bits.specs.Assign.{_after_}
+use Rattle.registers.specs.Places.{stvec, sepc, scause, stval, vsstatus, vstvec, vsepc, vscause, vstval, mstatus, medeleg, mtvec, mepc, mcause, mtval, mtinst, mtval2, hstatus, hedeleg, htval, htinst}
+use Rattle.status.specs.Trap.{intoM, intoS, intoH}
+use Rattle.privilege.specs.declared.traps.Trap.{Trap}
+use Rattle.privilege.specs.declared.traps.Target.{Target}
+use Rattle.privilege.specs.declared.traps.Target.the-variants.{M, HS, VS}
+use Rattle.privilege.specs.Delivery.{target}
+use Rattle.hart.specs.declared.state.Hart.{Hart}
+use Rattle.hart.specs.Hart.{reg, _↢_, _with_, context}
+
+-- pc becomes the target's tvec without bits 1:0
+abbrev pub base : ℕ → ℕ
+base tvec = tvec - tvec % 4
+
+-- M: mstatus; mepc, mcause, mtval, mtval2, mtinst written; V is 0 after
+unfoldable pub deliveredM : Hart → Trap → Hart
+deliveredM h t = record {
+  v = 0;
+  privilege = 3;
+  pc = base (reg h mtvec);
+  regs = h .regs with (
+      mstatus ↢ (reg h mstatus after intoM (h .v) (h .privilege) (t .flag) (reg h mstatus))
+      ∷ mepc ↢ h .pc ∷ mcause ↢ t .cause ∷ mtval ↢ t .value ∷ mtval2 ↢ t .second ∷ mtinst ↢ t .word ∷ []);
+}
+
+-- HS: mstatus and hstatus; sepc, scause, stval, htval, htinst written; V is 0 after
+unfoldable pub deliveredHS : Hart → Trap → Hart
+deliveredHS h t = record {
+  v = 0;
+  privilege = 1;
+  pc = base (reg h stvec);
+  regs = h .regs with (
+      mstatus ↢ (reg h mstatus after intoS (h .privilege) (reg h mstatus))
+      ∷ hstatus ↢ (reg h hstatus after intoH (h .v) (h .privilege) (t .flag) (reg h hstatus))
+      ∷ sepc ↢ h .pc ∷ scause ↢ t .cause ∷ stval ↢ t .value ∷ htval ↢ t .second ∷ htinst ↢ t .word ∷ []);
+}
+
+-- VS: vsstatus; vsepc, vscause, vstval; V stays 1
+unfoldable pub deliveredVS : Hart → Trap → Hart
+deliveredVS h t = record {
+  v = 1;
+  privilege = 1;
+  pc = base (reg h vstvec);
+  regs = h .regs with (
+      vsstatus ↢ (reg h vsstatus after intoS (h .privilege) (reg h vsstatus))
+      ∷ vsepc ↢ h .pc ∷ vscause ↢ t .cause ∷ vstval ↢ t .value ∷ []);
+}
+
+abbrev pub deliveredTo : Target → Hart → Trap → Hart
+deliveredTo M h t = deliveredM h t
+deliveredTo HS h t = deliveredHS h t
+deliveredTo VS h t = deliveredVS h t
+
+unfoldable pub delivered : Hart → Trap → Hart
+delivered h t = deliveredTo (target (context h) (reg h medeleg) (reg h hedeleg) (t .cause)) h t

@@ -1,0 +1,7 @@
+pub mod Hart
+pub mod Deliver
+pub mod Event
+pub mod Trap
+pub mod Return
+pub mod Wait
+pub mod Access

@@ -1,0 +1,49 @@
+-- MRET and SRET (document 01, "Traps and returns").
+use mathlib.Core.List.{[], _∷_}
+use lib.Dec.{eqb}
+use Rattle.bits.specs.Field.{pick, get}
+use Rattle.bits.specs.Assign.{_after_}
+use Rattle.registers.specs.Fields.{MPP, MPV, SPP, SPV}
+use Rattle.registers.specs.Places.{sepc, vsstatus, vsepc, mstatus, mepc, hstatus}
+use Rattle.status.specs.Return.{fromM, fromS, fromHS, fromH}
+use Rattle.privilege.specs.Instructions as instructions
+use Rattle.hart.specs.declared.state.Hart.{Hart}
+use Rattle.hart.specs.declared.event.Step.{Step}
+use Rattle.hart.specs.Hart.{reg, _↢_, _with_, context}
+use Rattle.hart.specs.Event.{done, settled}
+
+-- MRET: pc = mepc, privilege = MPP, V = MPV unless MPP=3 (then 0); mstatus
+unfoldable pub returnedM : Hart → Hart
+returnedM h = record {
+  v = pick (eqb (get MPP (reg h mstatus)) 3) 0 (get MPV (reg h mstatus));
+  privilege = get MPP (reg h mstatus);
+  pc = reg h mepc;
+  regs = h .regs with (mstatus ↢ (reg h mstatus after fromM (reg h mstatus)) ∷ []);
+}
+
+-- SRET with V=0: pc=sepc, V=SPV, privilege=SPP; mstatus and hstatus
+unfoldable pub returnedHS : Hart → Hart
+returnedHS h = record {
+  v = get SPV (reg h hstatus);
+  privilege = get SPP (reg h mstatus);
+  pc = reg h sepc;
+  regs = h .regs with (mstatus ↢ (reg h mstatus after fromHS (reg h mstatus)) ∷ hstatus ↢ (reg h hstatus after fromH) ∷ []);
+}
+
+-- SRET in VS: as above within vsstatus and vsepc, V=1, MPRV untouched
+unfoldable pub returnedVS : Hart → Hart
+returnedVS h = record {
+  v = 1;
+  privilege = get SPP (reg h vsstatus);
+  pc = reg h vsepc;
+  regs = h .regs with (vsstatus ↢ (reg h vsstatus after fromS (reg h vsstatus)) ∷ []);
+}
+
+abbrev pub returnedS : Hart → Hart
+returnedS h = pick (eqb (h .v) 1) (returnedVS h) (returnedHS h)
+
+unfoldable pub mret : Hart → Step
+mret h = settled h 0 (instructions.mret (context h)) (done (returnedM h))
+
+unfoldable pub sret : Hart → Step
+sret h = settled h 0 (instructions.sret (context h)) (done (returnedS h))

@@ -1,0 +1,36 @@
+-- Trap requests, environment calls and breakpoints (document 01, "Traps and returns").
+use mathlib.Core.Bool.{false}
+use Prim.Native.Nat.{ℕ}
+use lib.Dec.{eqb}
+use Rattle.bits.specs.Field.{pick}
+use Rattle.privilege.specs.declared.mode.Context.{Context}
+use Rattle.privilege.specs.declared.mode.Verdict.{Verdict}
+use Rattle.privilege.specs.declared.traps.Trap.{Trap}
+use Rattle.privilege.specs.Mode.{isHS, isM, isVS, verdict}
+use Rattle.privilege.specs.Request.{impossible}
+use Rattle.hart.specs.declared.state.Hart.{Hart}
+use Rattle.hart.specs.declared.event.Step.{Step}
+use Rattle.hart.specs.Hart.{context}
+use Rattle.hart.specs.Event.{settled, trapped, raised}
+
+abbrev allowed : Verdict
+allowed = verdict false false
+
+-- a trap request is refused as 4 if it can't arise, else delivered
+unfoldable pub trap : Hart → Trap → Step
+trap h t = settled h (pick (impossible (context h) t) 4 0) allowed (trapped h t)
+
+-- environment calls give 8 (U, VU), 9, 10, 11
+abbrev pub callCause : Context → ℕ
+callCause c = pick (isM c) 11 (pick (isVS c) 10 (pick (isHS c) 9 8))
+
+-- with value 0; the flag is clear; second value and word are 0
+unfoldable pub ecall : Hart → Step
+ecall h = settled h 0 allowed (raised h (callCause (context h)))
+
+-- breakpoint: value pc, flag = V; second value and word are 0
+abbrev pub breakpoint : Hart → Trap
+breakpoint h = record { cause = 3; value = h .pc; second = 0; word = 0; flag = eqb (h .v) 1 }
+
+unfoldable pub ebreak : Hart → Step
+ebreak h = settled h 0 allowed (trapped h (breakpoint h))

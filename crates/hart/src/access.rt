@@ -1,0 +1,185 @@
+// Register access: read, write, set and clear.
+ghost use mathlib.Core.Path.{_≡_};
+ghost use Prim.Native.Nat.{_<_};
+ghost use Rattle.registers.specs.Table.{at, rowOf};
+ghost use Rattle.hart.specs.Access.{combined, reached, home, seen, written, valueOf, answer, accessRow, access, read, write, set, clear};
+use crate::event::Outcome;
+use crate::event::Step;
+use crate::state::Hart;
+use privilege::mode::Verdict;
+use registers::masks;
+use registers::places;
+use registers::rules;
+use registers::table;
+use registers::table::Found;
+use registers::table::Row;
+
+pub enum Form {
+    Read,
+    Write,
+    Set,
+    Clear,
+}
+
+// The value answered is the old one where the access was done, and 0 where it trapped or was refused.
+pub struct Accessed {
+    pub hart: Hart,
+    pub outcome: Outcome,
+    pub value: u64,
+}
+
+fn combine(form: Form, old: u64, w: u64) -> u64
+    ensures { λ r. ⌜ r ≡ combined form old w ⌝ }
+{
+    match form {
+        Form::Read => old,
+        Form::Write => w,
+        Form::Set => old | w,
+        Form::Clear => old & !w,
+    }
+}
+
+fn value_of(outcome: Outcome, old: u64) -> u64
+    ensures { λ r. ⌜ r ≡ valueOf outcome old ⌝ }
+{
+    match outcome {
+        Outcome::Done => old,
+        Outcome::Trapped(_) => 0,
+        Outcome::Refused(_) => 0,
+    }
+}
+
+fn answer(s: Step, old: u64) -> Accessed
+    ensures { λ r. ⌜ r ≡ answer s old ⌝ }
+{
+    let outcome = s.outcome;
+    let hart = s.hart;
+    Accessed {
+        hart,
+        outcome,
+        value: value_of(outcome, old),
+    }
+}
+
+// The place of the register that an access reaches: with V=1 an S number's VS register.
+fn reached(v: u64, level: u64, place: usize) -> usize
+    requires { ⌜ place < 29 ⌝ }
+    ensures { λ r. ⌜ r ≡ reached v level place ⌝ }
+{
+    if (v == 1) & (level == table::SUPERVISOR) {
+        return place + 7;
+    }
+    place
+}
+
+// Where a register's bits are kept: sstatus is a view of mstatus.
+fn home(place: usize) -> usize
+    ensures { λ r. ⌜ r ≡ home place ⌝ }
+{
+    if place == places::SSTATUS {
+        return places::MSTATUS;
+    }
+    place
+}
+
+impl Hart {
+    // What a read of a register shows.
+    fn seen(self, place: usize) -> u64
+        requires { ⌜ place < 29 ⌝ }
+        ensures { λ r. ⌜ r ≡ seen self place ⌝ }
+    {
+        if place == places::SSTATUS {
+            return self.regs[places::MSTATUS] & masks::SSTATUS;
+        }
+        self.regs[place]
+    }
+
+    // The registers with x written to one of them, where the access writes; pc moves on.
+    fn written(mut self, place: usize, mask: u64, x: u64, writes: bool) -> Hart
+        requires { ⌜ (place < 29) × (mask ≡ at place .rule .mask) ⌝ }
+        ensures { λ r. ⌜ r ≡ written self place x writes ⌝ }
+    {
+        let kept = home(place);
+        let old = self.regs[kept];
+        let taken = rules::take(place, old, x);
+        let new = (old & !mask) | (taken & mask);
+        self.regs[kept] = bits::select(writes, new, old);
+        self.moved()
+    }
+
+    // An access to the register of a row of the table.
+    fn access_row(
+        self,
+        own: u64,
+        place: usize,
+        row: Row,
+        form: Form,
+        w: u64,
+        writes: bool,
+    ) -> Accessed
+        requires { ⌜ (place < 29) × (row ≡ rowOf (at place)) ⌝ }
+        ensures { λ r. ⌜ r ≡ accessRow self own place row form w writes ⌝ }
+    {
+        let verdict = privilege::access::access(self.context(), place, row, writes);
+        let to = reached(self.v, row.level, place);
+        let old = self.seen(to);
+        let next = self.written(to, row.mask, combine(form, old, w), writes);
+        let s = self.settle(
+            own,
+            verdict,
+            Step {
+                hart: next,
+                outcome: Outcome::Done,
+            },
+        );
+        answer(s, old)
+    }
+
+    // An access to the register with a number.
+    pub fn access(self, form: Form, number: u64, w: u64, writes: bool) -> Accessed
+        ensures { λ r. ⌜ r ≡ access self form number w writes ⌝ }
+    {
+        let own = bits::select(4095 < number, 5, 0);
+        let found = table::lookup(number);
+        let Found::At(place, row) = found else {
+            let unlisted = Verdict {
+                gives2: true,
+                gives22: false,
+            };
+            let s = self.settle(
+                own,
+                unlisted,
+                Step {
+                    hart: self,
+                    outcome: Outcome::Done,
+                },
+            );
+            return answer(s, 0);
+        };
+        self.access_row(own, place, row, form, w, writes)
+    }
+
+    pub fn read(self, number: u64) -> Accessed
+        ensures { λ r. ⌜ r ≡ read self number ⌝ }
+    {
+        self.access(Form::Read, number, 0, false)
+    }
+
+    pub fn write(self, number: u64, w: u64) -> Accessed
+        ensures { λ r. ⌜ r ≡ write self number w ⌝ }
+    {
+        self.access(Form::Write, number, w, true)
+    }
+
+    pub fn set(self, number: u64, w: u64, writes: bool) -> Accessed
+        ensures { λ r. ⌜ r ≡ set self number w writes ⌝ }
+    {
+        self.access(Form::Set, number, w, writes)
+    }
+
+    pub fn clear(self, number: u64, w: u64, writes: bool) -> Accessed
+        ensures { λ r. ⌜ r ≡ clear self number w writes ⌝ }
+    {
+        self.access(Form::Clear, number, w, writes)
+    }
+}

@@ -1,0 +1,8 @@
+// The hart, and its events as methods: each hands the next hart back.
+pub mod access;
+pub mod deliver;
+pub mod event;
+pub mod returns;
+pub mod state;
+pub mod trap;
+pub mod wait;

@@ -1,0 +1,77 @@
+// Trap requests, environment calls and breakpoints.
+ghost use mathlib.Core.Path.{_≡_};
+ghost use Rattle.hart.specs.Trap.{callCause, trap, ecall, ebreak};
+use crate::event::Step;
+use crate::state::Hart;
+use privilege::mode::Context;
+use privilege::mode::Verdict;
+use privilege::traps;
+use privilege::traps::Trap;
+
+// The cause of an environment call, by mode.
+fn call_cause(c: Context) -> u64
+    ensures { λ r. ⌜ r ≡ callCause c ⌝ }
+{
+    let other = bits::select(c.is_hs(), 9, 8);
+    bits::select(c.is_m(), 11, bits::select(c.is_vs(), 10, other))
+}
+
+impl Hart {
+    // A trap request.
+    pub fn trap(self, t: Trap) -> Step
+        ensures { λ r. ⌜ r ≡ trap self t ⌝ }
+    {
+        let own = bits::select(traps::impossible(self.context(), t), 4, 0);
+        self.settle(
+            own,
+            Verdict {
+                gives2: false,
+                gives22: false,
+            },
+            self.take_trap(t),
+        )
+    }
+
+    // ECALL.
+    pub fn ecall(self) -> Step
+        ensures { λ r. ⌜ r ≡ ecall self ⌝ }
+    {
+        let cause = call_cause(self.context());
+        let t = Trap {
+            cause,
+            value: 0,
+            second: 0,
+            word: 0,
+            flag: false,
+        };
+        self.settle(
+            0,
+            Verdict {
+                gives2: false,
+                gives22: false,
+            },
+            self.take_trap(t),
+        )
+    }
+
+    // EBREAK.
+    pub fn ebreak(self) -> Step
+        ensures { λ r. ⌜ r ≡ ebreak self ⌝ }
+    {
+        let t = Trap {
+            cause: 3,
+            value: self.pc,
+            second: 0,
+            word: 0,
+            flag: self.v == 1,
+        };
+        self.settle(
+            0,
+            Verdict {
+                gives2: false,
+                gives22: false,
+            },
+            self.take_trap(t),
+        )
+    }
+}
