@@ -21,7 +21,7 @@ put-requires-3 : tie.Need-put-requires-3
 put-requires-3 c κs = search needs
 
 returns : tie.Need-returns
-returns c = cc
+returns c = rw (c .put3 .ensures, c .before .put2 .ensures, c .before .before .put .ensures, c .before .before .before .select2 .ensures, c .before .before .before .before .select .ensures, c .before .before .before .before .before .get .ensures)
 
 pub enter-h-spec : {M : Type 1} → statement M
 enter-h-spec =

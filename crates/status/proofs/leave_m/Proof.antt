@@ -30,7 +30,7 @@ put-requires-5 : tie.Need-put-requires-5
 put-requires-5 c κs = search needs
 
 returns : tie.Need-returns
-returns c = cc
+returns c = rw (c .put5 .ensures, c .before .put4 .ensures, c .before .before .put3 .ensures, c .before .before .before .put2 .ensures, c .before .before .before .before .put .ensures, c .before .before .before .before .before .get3 .ensures, c .before .before .before .before .before .before .select .ensures, c .before .before .before .before .before .before .before .get2 .ensures, c .before .before .before .before .before .before .before .before .get .ensures)
 
 pub leave-m-spec : {M : Type 1} → statement M
 leave-m-spec =

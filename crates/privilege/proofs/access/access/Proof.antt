@@ -21,7 +21,7 @@ is-vu-requires : tie.Need-is-vu-requires
 is-vu-requires c κs = search needs
 
 returns : tie.Need-returns
-returns c = cc
+returns c = rw (c .is-vu .ensures, c .before .is-u .ensures, c .before .before .before .before .is-vs .ensures, c .before .before .before .before .before .before .before .before .is-hs .ensures, c .before .before .before .before .before .before .before .before .before .get2 .ensures, c .before .before .before .before .before .before .before .before .before .before .get .ensures)
 
 pub access-spec : {M : Type 1} → statement M
 access-spec =

@@ -12,7 +12,7 @@ get-requires : tie.Need-get-requires
 get-requires c κs = search needs
 
 returns : tie.Need-returns
-returns c = cc
+returns c = rw (c .before .get .ensures, c .before .before .is-hs .ensures, c .before .before .before .is-u .ensures)
 
 pub hfence-gvma-spec : {M : Type 1} → statement M
 hfence-gvma-spec = tie.close (tie.spec is-u-requires is-hs-requires get-requires returns)

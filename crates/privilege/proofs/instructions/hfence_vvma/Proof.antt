@@ -6,7 +6,7 @@ is-u-requires : tie.Need-is-u-requires
 is-u-requires c κs = search needs
 
 returns : tie.Need-returns
-returns c = cc
+returns c = rw (c .before .is-u .ensures)
 
 pub hfence-vvma-spec : {M : Type 1} → statement M
 hfence-vvma-spec = tie.close (tie.spec is-u-requires returns)

@@ -6,7 +6,7 @@ is-m-requires : tie.Need-is-m-requires
 is-m-requires c κs = search needs
 
 returns : tie.Need-returns
-returns c = cc
+returns c = rw (c .is-m .ensures)
 
 pub mret-spec : {M : Type 1} → statement M
 mret-spec = tie.close (tie.spec is-m-requires returns)

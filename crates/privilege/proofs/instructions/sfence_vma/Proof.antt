@@ -21,7 +21,7 @@ get-requires-2 : tie.Need-get-requires-2
 get-requires-2 c κs = search needs
 
 returns : tie.Need-returns
-returns c = cc
+returns c = rw (c .get2 .ensures, c .before .is-vs .ensures, c .before .before .is-vu .ensures, c .before .before .before .get .ensures, c .before .before .before .before .is-hs .ensures, c .before .before .before .before .before .is-u .ensures)
 
 pub sfence-vma-spec : {M : Type 1} → statement M
 sfence-vma-spec =

@@ -15,7 +15,7 @@ wrong-flag-requires : tie.Need-wrong-flag-requires
 wrong-flag-requires c κs = search needs
 
 returns : tie.Need-returns
-returns c = cc
+returns c = rw (c .wrong-flag .ensures, c .before .wrong-value .ensures, c .before .before .wrong-mode .ensures, c .before .before .before .unknown .ensures)
 
 pub impossible-spec : {M : Type 1} → statement M
 impossible-spec =

@@ -6,7 +6,7 @@ is-call-requires : tie.Need-is-call-requires
 is-call-requires c κs = search needs
 
 returns : tie.Need-returns
-returns c = cc
+returns c = rw (c .is-call .ensures)
 
 pub never-flagged-spec : {M : Type 1} → statement M
 never-flagged-spec = tie.close (tie.spec is-call-requires returns)

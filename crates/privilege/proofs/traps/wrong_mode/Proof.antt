@@ -18,7 +18,7 @@ is-m-requires : tie.Need-is-m-requires
 is-m-requires c κs = search needs
 
 returns : tie.Need-returns
-returns c = cc
+returns c = rw (c .before .is-m .ensures, c .before .before .is-vs .ensures, c .before .before .before .is-hs .ensures, c .before .before .before .before .is-vu .ensures, c .before .before .before .before .before .is-u .ensures)
 
 pub wrong-mode-spec : {M : Type 1} → statement M
 wrong-mode-spec =

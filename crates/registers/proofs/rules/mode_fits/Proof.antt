@@ -6,7 +6,7 @@ get-requires : tie.Need-get-requires
 get-requires c κs = search needs
 
 returns : tie.Need-returns
-returns c = cc
+returns c = rw (c .get .ensures)
 
 pub mode-fits-spec : {M : Type 1} → statement M
 mode-fits-spec = tie.close (tie.spec get-requires returns)

@@ -6,7 +6,7 @@ get-requires : tie.Need-get-requires
 get-requires c κs = search needs
 
 returns : tie.Need-returns
-returns c = cc
+returns c = rw (c .get .ensures)
 
 pub mpp-fits-spec : {M : Type 1} → statement M
 mpp-fits-spec = tie.close (tie.spec get-requires returns)
