@@ -9,45 +9,39 @@ use Rattle.privilege.specs.declared.traps.Target.{Target}
 use Rattle.privilege.specs.declared.traps.Target.the-variants.{M, HS, VS}
 use Rattle.privilege.specs.Delivery.{target}
 use Rattle.hart.specs.declared.state.Hart.{Hart}
-use Rattle.hart.specs.Hart.{reg, _↢_, _with_, context}
+use Rattle.hart.specs.Hart.{reg, Write, _↢_, _with_, context}
 
 -- pc becomes the target's tvec without bits 1:0
 abbrev pub base : ℕ → ℕ
 base tvec = tvec - tvec % 4
 
 -- M: mstatus; mepc, mcause, mtval, mtval2, mtinst written; V is 0 after
+abbrev pub writesM : Hart → Trap → List Write
+writesM h t =
+    mstatus ↢ (reg h mstatus after intoM (h .v) (h .privilege) (t .flag) (reg h mstatus))
+    ∷ mepc ↢ h .pc ∷ mcause ↢ t .cause ∷ mtval ↢ t .value ∷ mtval2 ↢ t .second ∷ mtinst ↢ t .word ∷ []
+
 unfoldable pub deliveredM : Hart → Trap → Hart
-deliveredM h t = record {
-  v = 0;
-  privilege = 3;
-  pc = base (reg h mtvec);
-  regs = h .regs with (
-      mstatus ↢ (reg h mstatus after intoM (h .v) (h .privilege) (t .flag) (reg h mstatus))
-      ∷ mepc ↢ h .pc ∷ mcause ↢ t .cause ∷ mtval ↢ t .value ∷ mtval2 ↢ t .second ∷ mtinst ↢ t .word ∷ []);
-}
+deliveredM h t = record { v = 0; privilege = 3; pc = base (reg h mtvec); regs = h .regs with writesM h t }
 
 -- HS: mstatus and hstatus; sepc, scause, stval, htval, htinst written; V is 0 after
+abbrev pub writesHS : Hart → Trap → List Write
+writesHS h t =
+    mstatus ↢ (reg h mstatus after intoS (h .privilege) (reg h mstatus))
+    ∷ hstatus ↢ (reg h hstatus after intoH (h .v) (h .privilege) (t .flag) (reg h hstatus))
+    ∷ sepc ↢ h .pc ∷ scause ↢ t .cause ∷ stval ↢ t .value ∷ htval ↢ t .second ∷ htinst ↢ t .word ∷ []
+
 unfoldable pub deliveredHS : Hart → Trap → Hart
-deliveredHS h t = record {
-  v = 0;
-  privilege = 1;
-  pc = base (reg h stvec);
-  regs = h .regs with (
-      mstatus ↢ (reg h mstatus after intoS (h .privilege) (reg h mstatus))
-      ∷ hstatus ↢ (reg h hstatus after intoH (h .v) (h .privilege) (t .flag) (reg h hstatus))
-      ∷ sepc ↢ h .pc ∷ scause ↢ t .cause ∷ stval ↢ t .value ∷ htval ↢ t .second ∷ htinst ↢ t .word ∷ []);
-}
+deliveredHS h t = record { v = 0; privilege = 1; pc = base (reg h stvec); regs = h .regs with writesHS h t }
 
 -- VS: vsstatus; vsepc, vscause, vstval; V stays 1
+abbrev pub writesVS : Hart → Trap → List Write
+writesVS h t =
+    vsstatus ↢ (reg h vsstatus after intoS (h .privilege) (reg h vsstatus))
+    ∷ vsepc ↢ h .pc ∷ vscause ↢ t .cause ∷ vstval ↢ t .value ∷ []
+
 unfoldable pub deliveredVS : Hart → Trap → Hart
-deliveredVS h t = record {
-  v = 1;
-  privilege = 1;
-  pc = base (reg h vstvec);
-  regs = h .regs with (
-      vsstatus ↢ (reg h vsstatus after intoS (h .privilege) (reg h vsstatus))
-      ∷ vsepc ↢ h .pc ∷ vscause ↢ t .cause ∷ vstval ↢ t .value ∷ []);
-}
+deliveredVS h t = record { v = 1; privilege = 1; pc = base (reg h vstvec); regs = h .regs with writesVS h t }
 
 abbrev pub deliveredTo : Target → Hart → Trap → Hart
 deliveredTo M h t = deliveredM h t

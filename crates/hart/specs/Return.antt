@@ -1,5 +1,5 @@
 -- MRET and SRET (document 01, "Traps and returns").
-use mathlib.Core.List.{[], _∷_}
+use mathlib.Core.List.{List, [], _∷_}
 use lib.Dec.{eqb}
 use Rattle.bits.specs.Field.{pick, get}
 use Rattle.bits.specs.Assign.{_after_}
@@ -9,35 +9,34 @@ use Rattle.status.specs.Return.{fromM, fromS, fromHS, fromH}
 use Rattle.privilege.specs.Instructions as instructions
 use Rattle.hart.specs.declared.state.Hart.{Hart}
 use Rattle.hart.specs.declared.event.Step.{Step}
-use Rattle.hart.specs.Hart.{reg, _↢_, _with_, context}
+use Rattle.hart.specs.Hart.{reg, Write, _↢_, _with_, context}
 use Rattle.hart.specs.Event.{done, settled}
 
 -- MRET: pc = mepc, privilege = MPP, V = MPV unless MPP=3 (then 0); mstatus
+abbrev pub writesMRET : Hart → List Write
+writesMRET h = mstatus ↢ (reg h mstatus after fromM (reg h mstatus)) ∷ []
+
 unfoldable pub returnedM : Hart → Hart
 returnedM h = record {
   v = pick (eqb (get MPP (reg h mstatus)) 3) 0 (get MPV (reg h mstatus));
   privilege = get MPP (reg h mstatus);
   pc = reg h mepc;
-  regs = h .regs with (mstatus ↢ (reg h mstatus after fromM (reg h mstatus)) ∷ []);
+  regs = h .regs with writesMRET h;
 }
 
 -- SRET with V=0: pc=sepc, V=SPV, privilege=SPP; mstatus and hstatus
+abbrev pub writesHSRET : Hart → List Write
+writesHSRET h = mstatus ↢ (reg h mstatus after fromHS (reg h mstatus)) ∷ hstatus ↢ (reg h hstatus after fromH) ∷ []
+
 unfoldable pub returnedHS : Hart → Hart
-returnedHS h = record {
-  v = get SPV (reg h hstatus);
-  privilege = get SPP (reg h mstatus);
-  pc = reg h sepc;
-  regs = h .regs with (mstatus ↢ (reg h mstatus after fromHS (reg h mstatus)) ∷ hstatus ↢ (reg h hstatus after fromH) ∷ []);
-}
+returnedHS h = record { v = get SPV (reg h hstatus); privilege = get SPP (reg h mstatus); pc = reg h sepc; regs = h .regs with writesHSRET h }
 
 -- SRET in VS: as above within vsstatus and vsepc, V=1, MPRV untouched
+abbrev pub writesVSRET : Hart → List Write
+writesVSRET h = vsstatus ↢ (reg h vsstatus after fromS (reg h vsstatus)) ∷ []
+
 unfoldable pub returnedVS : Hart → Hart
-returnedVS h = record {
-  v = 1;
-  privilege = get SPP (reg h vsstatus);
-  pc = reg h vsepc;
-  regs = h .regs with (vsstatus ↢ (reg h vsstatus after fromS (reg h vsstatus)) ∷ []);
-}
+returnedVS h = record { v = 1; privilege = get SPP (reg h vsstatus); pc = reg h vsepc; regs = h .regs with writesVSRET h }
 
 abbrev pub returnedS : Hart → Hart
 returnedS h = pick (eqb (h .v) 1) (returnedVS h) (returnedHS h)

@@ -1,0 +1,88 @@
+-- With V=1 an event that is done changes only VS registers, pc and the privilege, and V stays 1. Assumes nothing.
+use mathlib.Core.Path.{_≡_, refl, sym, ap, _∙_}
+use mathlib.Core.Bool.{Bool, true, false, _&&_, _||_, not}
+use Prim.Native.Nat.{ℕ, _+_, _<_}
+use native.Mathlib.Omega.{arith}
+use lib.Dec.{eqb}
+use borrow.Author.Tests.{eq-eqb}
+use lib.Seq.{getD-set-other}
+use Rattle.bits.specs.Field.{pick}
+use Rattle.bits.specs.Every.{every}
+use Rattle.bits.proofs.Bools.{and-left, clash}
+use Rattle.bits.proofs.Every.{every-at}
+use Rattle.registers.specs.Fields.{TVM, VTVM}
+use Rattle.registers.specs.Places.{satp, hgatp}
+use Rattle.registers.specs.Rules.{stores-nothing}
+use Rattle.registers.specs.Table.{hypervisor, machine, Register, register, registers, at, rowOf}
+use Rattle.privilege.specs.Mode.{isU, isHS, isM, isVU, isVS, isSet}
+use Rattle.privilege.specs.Access as permission
+use Rattle.hart.specs.declared.state.Hart.{Hart}
+use Rattle.hart.specs.declared.event.Outcome.the-variants.{Done, Trapped, Refused}
+use Rattle.hart.specs.declared.event.Step.{Step}
+use Rattle.hart.specs.Hart.{reg, context, passes}
+use Rattle.hart.specs.Return.{writesVSRET, returnedVS}
+use Rattle.hart.specs.Access.{reached, home, written}
+use Rattle.invariants.specs.Events.{Event, run}
+use Rattle.invariants.proofs.Logic.{or-left, or-right, and-rest}
+use Rattle.invariants.proofs.Mode.{Mode, U, HS, M, VU, VS, passing}
+use Rattle.invariants.proofs.Writes.{apart, outside-kept}
+use Rattle.invariants.proofs.Comes.{Allowed, Comes, refuses, traps, mrets, srets-VS, srets-HS, moves, writes, comes}
+use Rattle.invariants.proofs.Sides.{guest, OnlyIn}
+
+-- one computed test: a row that is neither M's nor VS's nor H's reaches, with V=1, a VS register
+abbrev test : ℕ → Register → Bool
+test i r = eqb (r .level) machine || (eqb (r .level) hypervisor || guest (home (reached 1 (r .level) i)))
+
+tested : every test 0 registers ≡ true
+unfolding every
+tested = refl
+
+in-VS : (v p : ℕ) → Mode v p → v ≡ 1 → (eqb v 1 && eqb p 0) ≡ false → (eqb v 1 && eqb p 1) ≡ true
+in-VS v p U e u = let no : ⊥ = omega arith in absurd no
+in-VS v p HS e u = let no : ⊥ = omega arith in absurd no
+in-VS v p M e u = let no : ⊥ = omega arith in absurd no
+in-VS v p VU e u = sym u
+in-VS v p VS e u = refl
+
+-- with V=1, neither M's nor, in VS, VS's and H's
+not-machine : (r u hs v m : Bool) → (r || (u || (hs || v && m))) ≡ false → v ≡ true → m ≡ false
+not-machine r u hs v m e t = and-rest v m t (or-right hs _ (or-right u _ (or-right r _ e)))
+
+not-hypervisor : (vs t hyp vu : Bool) → (vs && (t || hyp) || vu) ≡ false → vs ≡ true → hyp ≡ false
+not-hypervisor vs t hyp vu e s = or-right t hyp (and-rest vs (t || hyp) s (or-left (vs && (t || hyp)) vu e))
+
+reached-guest : (h : Hart) (place : ℕ) (w : Bool) → passes h ≡ true → h .v ≡ 1 → place < 29 → Allowed (permission.access (context h) place (rowOf (at place)) w)
+    → guest (home (reached (h .v) (at place .level) place)) ≡ true
+reached-guest h place w p v l a =
+    let c = context h in
+    let t : Bool = isSet VTVM (c .hstatus) && eqb place satp in
+    let hyp : Bool = eqb (at place .level) hypervisor in
+    let s : isVS c ≡ true = in-VS (h .v) (h .privilege) (passing h p .mode) v (or-right (isVS c && (t || hyp)) (isVU c) (a .not22)) in
+    let e₁ : hyp ≡ false = not-hypervisor (isVS c) t hyp (isVU c) (a .not22) s in
+    let e₂ : eqb (at place .level) machine ≡ false =
+    not-machine (w && at place .read-only) (isU c) (isHS c && (eqb (at place .level) machine || isSet TVM (c .mstatus) && (eqb place satp || eqb place hgatp))) (eqb (h .v) 1) _ (a .not2) (eq-eqb _ _ v) in
+    rw v (simp (e₁, e₂) at (every-at test registers (register 0 0 stores-nothing) tested place l))
+
+set-guest : (h : Hart) (place x : ℕ) (w : Bool) → guest (home place) ≡ true → OnlyIn guest h (written h place x w)
+unfolding written
+set-guest h place x true g p f = getD-set-other (h .regs) (home place) p _ 0 (apart guest p (home place) f g)
+set-guest h place x false g p f = refl
+
+-- V is 1 still, and nothing but VS registers differs
+pub record Within (h h′ : Hart) : Type 0 where
+  pub registers : OnlyIn guest h h′
+  pub v : h′ .v ≡ 1
+
+within : (h : Hart) (s : Step) → Comes h s → h .v ≡ 1 → s .outcome ≡ Done → Within h (s .hart)
+unfolding returnedVS written
+within h s (refuses n k) v e = let z : _≡_ {A = ℕ} 0 1 = cc in let no : ⊥ = omega arith in absurd no
+within h s (traps a t) v e = let z : _≡_ {A = ℕ} 0 1 = cc in let no : ⊥ = omega arith in absurd no
+within h s (mrets a m) v e = clash (rw v at (and-left (eqb (h .v) 0) _ m))
+within h s (srets-VS a u) v e = record { registers = outside-kept guest (writesVSRET h) (h .regs) refl; v = refl }
+within h s (srets-HS a u) v e = clash (sym (rw v at u))
+within h s (moves a) v e = record { registers = λ p f. refl; v = v }
+within h s (writes a place l w p x) v e = record { registers = set-guest h (reached (h .v) (at place .level) place) x w (reached-guest h place w a v l p); v = v }
+
+-- every event that starts with V=1 and is done (it neither traps nor is refused)
+pub guest-within : (e : Event) (h : Hart) → h .v ≡ 1 → run e h .outcome ≡ Done → Within h (run e h .hart)
+guest-within e h = within h (run e h) (comes e h)

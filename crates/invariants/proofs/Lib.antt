@@ -1,0 +1,9 @@
+pub mod Logic
+pub mod Mode
+pub mod Writes
+pub mod Settled
+pub mod Comes
+pub mod Passing
+pub mod Answers
+pub mod Sides
+pub mod Guest

@@ -1,0 +1,76 @@
+-- S and VS registers are never swapped: an event changes VS registers alone, or none of them. Assumes nothing.
+use mathlib.Core.Path.{_≡_, refl, ap}
+use mathlib.Core.Bool.{Bool, true, false, _&&_, not}
+use mathlib.Core.Logic.{_⊎_, inl, inr}
+use Prim.Native.Nat.{ℕ}
+use lib.Dec.{leb}
+use lib.ListN.{getD, set}
+use lib.Seq.{getD-set-other}
+use Rattle.registers.specs.Places.{vsstatus, vsatp, medeleg, hedeleg}
+use Rattle.registers.specs.Table.{at}
+use Rattle.privilege.specs.declared.traps.Trap.{Trap}
+use Rattle.privilege.specs.declared.traps.Target.{Target}
+use Rattle.privilege.specs.declared.traps.Target.the-variants.{M, HS, VS}
+use Rattle.privilege.specs.Delivery.{target}
+use Rattle.hart.specs.declared.state.Hart.{Hart}
+use Rattle.hart.specs.declared.event.Step.{Step}
+use Rattle.hart.specs.Hart.{reg, context}
+use Rattle.hart.specs.Deliver.{writesM, writesHS, writesVS, deliveredM, deliveredHS, deliveredVS, deliveredTo, delivered}
+use Rattle.hart.specs.Return.{writesMRET, writesHSRET, writesVSRET, returnedM, returnedHS, returnedVS}
+use Rattle.hart.specs.Access.{reached, home, written}
+use Rattle.invariants.specs.Events.{Event, run}
+use Rattle.invariants.proofs.Writes.{apart, outside-kept}
+use Rattle.invariants.proofs.Comes.{Comes, refuses, traps, mrets, srets-VS, srets-HS, moves, writes, comes}
+
+-- the VS registers, and all others
+abbrev pub guest : ℕ → Bool
+guest p = leb vsstatus p && leb p vsatp
+
+abbrev pub host : ℕ → Bool
+host p = not (guest p)
+
+-- only registers inside differ
+abbrev pub OnlyIn : (ℕ → Bool) → Hart → Hart → Type 0
+OnlyIn inside h h′ = (p : ℕ) → inside p ≡ false → reg h′ p ≡ reg h p
+
+abbrev pub OneSide : Hart → Hart → Type 0
+OneSide h h′ = OnlyIn guest h h′ ⊎ OnlyIn host h h′
+
+-- a trap into VS changes VS registers alone, so nothing of HS or M, and V stays 1
+pub into-VS : (h : Hart) (t : Trap) → OnlyIn guest h (deliveredVS h t) × (deliveredVS h t .v ≡ 1)
+unfolding deliveredVS
+into-VS h t = (outside-kept guest (writesVS h t) (h .regs) refl, refl)
+
+delivered-side : (to : Target) (h : Hart) (t : Trap) → OneSide h (deliveredTo to h t)
+unfolding deliveredM deliveredHS deliveredVS
+delivered-side M h t = inr (outside-kept host (writesM h t) (h .regs) refl)
+delivered-side HS h t = inr (outside-kept host (writesHS h t) (h .regs) refl)
+delivered-side VS h t = inl (outside-kept guest (writesVS h t) (h .regs) refl)
+
+trap-side : (h : Hart) (t : Trap) → OneSide h (delivered h t)
+unfolding delivered
+trap-side h t = delivered-side (target (context h) (reg h medeleg) (reg h hedeleg) (t .cause)) h t
+
+-- one register written
+set-side : (h : Hart) (place x : ℕ) (b : Bool) → guest place ≡ b → ((p : ℕ) → guest p ≡ false → getD (set (h .regs) place x) p 0 ≡ reg h p) ⊎ ((p : ℕ) → host p ≡ false → getD (set (h .regs) place x) p 0 ≡ reg h p)
+set-side h place x true e = inl (λ p f. getD-set-other (h .regs) place p x 0 (apart guest p place f e))
+set-side h place x false e = inr (λ p f. getD-set-other (h .regs) place p x 0 (apart host p place f (ap not e)))
+
+written-side : (h : Hart) (place x : ℕ) (writes : Bool) → OneSide h (written h place x writes)
+unfolding written
+written-side h place x true = set-side h (home place) _ (guest (home place)) refl
+written-side h place x false = inl (λ p f. refl)
+
+side : (h : Hart) (s : Step) → Comes h s → OneSide h (s .hart)
+unfolding returnedM returnedHS returnedVS
+side h s (refuses n z) = inl (λ p f. refl)
+side h s (traps a t) = trap-side h t
+side h s (mrets a m) = inr (outside-kept host (writesMRET h) (h .regs) refl)
+side h s (srets-VS a v) = inl (outside-kept guest (writesVSRET h) (h .regs) refl)
+side h s (srets-HS a v) = inr (outside-kept host (writesHSRET h) (h .regs) refl)
+side h s (moves a) = inl (λ p f. refl)
+side h s (writes a place l w v x) = written-side h (reached (h .v) (at place .level) place) x w
+
+-- every event changes VS registers alone, or none of them
+pub never-swapped : (e : Event) (h : Hart) → OneSide h (run e h .hart)
+never-swapped e h = side h (run e h) (comes e h)
