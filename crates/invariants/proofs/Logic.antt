@@ -15,3 +15,9 @@ pub and-rest : (a b : Bool) → a ≡ true → (a && b) ≡ false → b ≡ fals
 and-rest true b t e = e
 and-rest false true t e = sym t
 and-rest false false t e = refl
+
+pub and-comm : (a b : Bool) → (a && b) ≡ (b && a)
+and-comm true true = refl
+and-comm true false = refl
+and-comm false true = refl
+and-comm false false = refl
