@@ -16,7 +16,7 @@ use Rattle.bits.proofs.Every.{every-any}
 use Rattle.registers.specs.Places.{sstatus, mstatus}
 use Rattle.registers.specs.Rules.{stores-nothing}
 use Rattle.registers.specs.Table.{supervisor, Register, register, registers, at}
-use Rattle.hart.specs.Access.{reached, home}
+use Rattle.csr.specs.Access.{reached, home}
 
 pub home-bound : (place : ℕ) → place < 29 → home place < 29
 home-bound place h = pick-both (λ (i : ℕ). i < 29) (eqb place sstatus) mstatus place (λ e. omega arith) (λ e. h)

@@ -1,6 +1,6 @@
 -- The test of all registers as a straight line: those that hold every word ask nothing. Assumes nothing.
 use mathlib.Core.Path.{_≡_, refl, ap, _∙_}
-use mathlib.Core.Bool.{Bool, true, false, _&&_}
+use mathlib.Core.Bool.{Bool, true, _&&_}
 use mathlib.Core.List.{List}
 use Prim.Native.Nat.{ℕ, _-_}
 use lib.Bits.{bitAnd, and-zero-r}
@@ -8,17 +8,13 @@ use lib.Dec.{eqb}
 use lib.ListN.{getD, length}
 use Rattle.bits.specs.Field.{top}
 use Rattle.bits.specs.Every.{every}
-use Rattle.bits.proofs.Bools.{and-assoc}
+use Rattle.bits.proofs.Bools.{and-assoc, and-true}
 use Rattle.bits.proofs.Every.{all, every-all}
 use Rattle.registers.specs.Places.{sstatus, stvec, sepc, satp, vsstatus, vstvec, vsepc, vsatp, mstatus, medeleg, mtvec, mepc, hstatus, hedeleg, hgatp, hgeip}
 use Rattle.registers.specs.Rules.{legal, stores-word, stores-nothing, stores-status, stores-mstatus, stores-hstatus, stores-hedeleg, stores-medeleg, stores-tvec, stores-epc, stores-satp, stores-hgatp}
 use Rattle.hart.specs.Hart.{holds}
 
-and-true : (a : Bool) → (a && true) ≡ a
-and-true true = refl
-and-true false = refl
-
-word-legal : (x : ℕ) → legal stores-word x ≡ true
+pub word-legal : (x : ℕ) → legal stores-word x ≡ true
 unfolding legal
 word-legal x = rw (and-zero-r x)
 

@@ -14,23 +14,17 @@ use Rattle.registers.specs.Places.{sstatus, mstatus}
 use Rattle.registers.specs.Rules.{stored}
 use Rattle.registers.specs.Table.{supervisor, at, table, firstAt}
 use Rattle.privilege.specs.Mode.{verdict}
-use Rattle.privilege.specs.Access as permission
+use Rattle.csr.specs.declared.Form.{Form}
+use Rattle.csr.specs.declared.Form.the-variants.{Read, Write, Set, Clear}
+use Rattle.csr.specs.Access.{reached, combined, home}
+use Rattle.csr.specs.Access as csr
 use Rattle.hart.specs.declared.state.Hart.{Hart}
 use Rattle.hart.specs.declared.event.Outcome.{Outcome}
 use Rattle.hart.specs.declared.event.Outcome.the-variants.{Done, Trapped, Refused}
 use Rattle.hart.specs.declared.event.Step.{Step}
-use Rattle.hart.specs.declared.access.Form.{Form}
-use Rattle.hart.specs.declared.access.Form.the-variants.{Read, Write, Set, Clear}
 use Rattle.hart.specs.declared.access.Accessed.{Accessed}
 use Rattle.hart.specs.Hart.{reg, context}
 use Rattle.hart.specs.Event.{done, settled, next}
-
--- read, write, set or clear: what is written where old is seen
-abbrev pub combined : Form → ℕ → ℕ → ℕ
-combined Read old w = old
-combined Write old w = w
-combined Set old w = bitOr old w
-combined Clear old w = bitAnd old (top - w)
 
 -- all answer the old value, a trap or refusal answers 0
 abbrev pub valueOf : Outcome → ℕ → ℕ
@@ -41,17 +35,9 @@ valueOf (Refused number) old = 0
 abbrev pub answer : Step → ℕ → Accessed
 answer s old = record { hart = s .hart; outcome = s .outcome; value = valueOf (s .outcome) old }
 
--- in VS an S number reaches its VS register: the same seven, seven places further
-abbrev pub reached : (v level place : ℕ) → ℕ
-reached v level place = pick (eqb v 1 && eqb level supervisor) (place + 7) place
-
 -- sstatus is mstatus's SIE, SPIE, SPP, SUM, MXR and UXL
 abbrev pub seen : Hart → ℕ → ℕ
 seen h place = pick (eqb place sstatus) (bitAnd (reg h mstatus) (bits (SIE ∷ SPIE ∷ SPP ∷ SUM ∷ MXR ∷ UXL ∷ []))) (reg h place)
-
--- where a register's bits are kept
-abbrev pub home : ℕ → ℕ
-home place = pick (eqb place sstatus) mstatus place
 
 -- a done access: the register written, if the access writes, and pc moved on by 4, wrapping
 unfoldable pub written : Hart → ℕ → ℕ → Bool → Hart
@@ -67,7 +53,7 @@ unfoldable pub accessRow : Hart → ℕ → ℕ → Row → Form → ℕ → Boo
 accessRow h own place row form w writes =
     let to : ℕ = reached (h .v) (row .level) place in
     let old : ℕ = seen h to in
-    answer (settled h own (permission.access (context h) place row writes) (done (written h to (combined form old w) writes))) old
+    answer (settled h own (csr.verdict (context h) place row writes) (done (written h to (combined form old w) writes))) old
 
 -- an unlisted number: cause 2 in every mode
 abbrev pub accessFound : Found → Hart → ℕ → Form → ℕ → Bool → Accessed

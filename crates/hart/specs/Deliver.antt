@@ -4,10 +4,10 @@ use Prim.Native.Nat.{ℕ, _%_, _-_}
 use Rattle.bits.specs.Assign.{_after_}
 use Rattle.registers.specs.Places.{stvec, sepc, scause, stval, vsstatus, vstvec, vsepc, vscause, vstval, mstatus, medeleg, mtvec, mepc, mcause, mtval, mtinst, mtval2, hstatus, hedeleg, htval, htinst}
 use Rattle.status.specs.Trap.{intoM, intoS, intoH}
-use Rattle.privilege.specs.declared.traps.Trap.{Trap}
-use Rattle.privilege.specs.declared.traps.Target.{Target}
-use Rattle.privilege.specs.declared.traps.Target.the-variants.{M, HS, VS}
-use Rattle.privilege.specs.Delivery.{target}
+use Rattle.traps.specs.declared.Trap.{Trap}
+use Rattle.traps.specs.declared.Target.{Target}
+use Rattle.traps.specs.declared.Target.the-variants.{M, HS, VS}
+use Rattle.traps.specs.Delivery.{target}
 use Rattle.hart.specs.declared.state.Hart.{Hart}
 use Rattle.hart.specs.Hart.{reg, Write, _↢_, _with_, context}
 

@@ -3,12 +3,12 @@ use mathlib.Core.Bool.{Bool, _&&_, _||_, not}
 use mathlib.Core.List.{List, [], _∷_}
 use Prim.Native.Nat.{ℕ, _%_}
 use lib.Dec.{eqb}
-use lib.ListN.{getD, set}
+use lib.ListN.{getD, set, replicate}
 use Rattle.bits.specs.Field.{pick}
 use Rattle.bits.specs.Every.{every}
 use Rattle.registers.specs.Fields.{MPRV}
-use Rattle.registers.specs.Places.{sstatus, mstatus, hstatus}
-use Rattle.registers.specs.Rules.{legal}
+use Rattle.registers.specs.Places.{sstatus, vsstatus, mstatus, hstatus}
+use Rattle.registers.specs.Rules.{legal, stores-status, stores-mstatus, stores-hstatus}
 use Rattle.registers.specs.Table.{at}
 use Rattle.privilege.specs.declared.mode.Context.{Context}
 use Rattle.privilege.specs.Mode.{isU, isHS, isM, isVU, isVS, isSet}
@@ -32,6 +32,15 @@ p ↢ x = record { place = p; value = x }
 abbrev pub _with_ : List ℕ → List Write → List ℕ
 rs with [] = rs
 rs with (w ∷ ws) = set rs (w .place) (w .value) with ws
+
+-- the bits that a write stores are clear in every register
+abbrev pub reset : (v privilege pc : ℕ) → Hart
+reset v privilege pc = record {
+  v = v;
+  privilege = privilege;
+  pc = pc;
+  regs = replicate 29 0 with (vsstatus ↢ stores-status .fixed ∷ mstatus ↢ stores-mstatus .fixed ∷ hstatus ↢ stores-hstatus .fixed ∷ []);
+}
 
 -- what an instruction's permission depends on
 abbrev pub context : Hart → Context

@@ -1,13 +1,12 @@
 -- Trap requests, environment calls and breakpoints (document 01, "Traps and returns").
 use mathlib.Core.Bool.{false}
-use Prim.Native.Nat.{ℕ}
 use lib.Dec.{eqb}
 use Rattle.bits.specs.Field.{pick}
-use Rattle.privilege.specs.declared.mode.Context.{Context}
 use Rattle.privilege.specs.declared.mode.Verdict.{Verdict}
-use Rattle.privilege.specs.declared.traps.Trap.{Trap}
-use Rattle.privilege.specs.Mode.{isHS, isM, isVS, verdict}
-use Rattle.privilege.specs.Request.{impossible}
+use Rattle.traps.specs.declared.Trap.{Trap}
+use Rattle.privilege.specs.Mode.{verdict}
+use Rattle.traps.specs.Request.{impossible}
+use Rattle.traps.specs.Delivery.{callCause}
 use Rattle.hart.specs.declared.state.Hart.{Hart}
 use Rattle.hart.specs.declared.event.Step.{Step}
 use Rattle.hart.specs.Hart.{context}
@@ -20,11 +19,7 @@ allowed = verdict false false
 unfoldable pub trap : Hart → Trap → Step
 trap h t = settled h (pick (impossible (context h) t) 4 0) allowed (trapped h t)
 
--- environment calls give 8 (U, VU), 9, 10, 11
-abbrev pub callCause : Context → ℕ
-callCause c = pick (isM c) 11 (pick (isVS c) 10 (pick (isHS c) 9 8))
-
--- with value 0; the flag is clear; second value and word are 0
+-- environment calls give 8 (U, VU), 9, 10, 11 with value 0; the flag is clear; second value and word are 0
 unfoldable pub ecall : Hart → Step
 ecall h = settled h 0 allowed (raised h (callCause (context h)))
 

@@ -2,10 +2,11 @@
 ghost use mathlib.Core.Path.{_≡_};
 ghost use Prim.Native.Nat.{_<_};
 ghost use Rattle.registers.specs.Table.{at, rowOf};
-ghost use Rattle.hart.specs.Access.{combined, reached, home, seen, written, valueOf, answer, accessRow, access, read, write, set, clear};
+ghost use Rattle.hart.specs.Access.{seen, written, valueOf, answer, accessRow, access, read, write, set, clear};
 use crate::event::Outcome;
 use crate::event::Step;
 use crate::state::Hart;
+use csr::Form;
 use privilege::mode::Verdict;
 use registers::masks;
 use registers::places;
@@ -14,29 +15,11 @@ use registers::table;
 use registers::table::Found;
 use registers::table::Row;
 
-pub enum Form {
-    Read,
-    Write,
-    Set,
-    Clear,
-}
-
 // The value answered is the old one where the access was done, and 0 where it trapped or was refused.
 pub struct Accessed {
     pub hart: Hart,
     pub outcome: Outcome,
     pub value: u64,
-}
-
-fn combine(form: Form, old: u64, w: u64) -> u64
-    ensures { λ r. ⌜ r ≡ combined form old w ⌝ }
-{
-    match form {
-        Form::Read => old,
-        Form::Write => w,
-        Form::Set => old | w,
-        Form::Clear => old & !w,
-    }
 }
 
 fn value_of(outcome: Outcome, old: u64) -> u64
@@ -61,27 +44,6 @@ fn answer(s: Step, old: u64) -> Accessed
     }
 }
 
-// The place of the register that an access reaches: with V=1 an S number's VS register.
-fn reached(v: u64, level: u64, place: usize) -> usize
-    requires { ⌜ place < 29 ⌝ }
-    ensures { λ r. ⌜ r ≡ reached v level place ⌝ }
-{
-    if (v == 1) & (level == table::SUPERVISOR) {
-        return place + 7;
-    }
-    place
-}
-
-// Where a register's bits are kept: sstatus is a view of mstatus.
-fn home(place: usize) -> usize
-    ensures { λ r. ⌜ r ≡ home place ⌝ }
-{
-    if place == places::SSTATUS {
-        return places::MSTATUS;
-    }
-    place
-}
-
 impl Hart {
     // What a read of a register shows.
     fn seen(self, place: usize) -> u64
@@ -99,7 +61,7 @@ impl Hart {
         requires { ⌜ (place < 29) × (mask ≡ at place .rule .mask) ⌝ }
         ensures { λ r. ⌜ r ≡ written self place x writes ⌝ }
     {
-        let kept = home(place);
+        let kept = csr::home(place);
         let old = self.regs[kept];
         let taken = rules::take(place, old, x);
         let new = (old & !mask) | (taken & mask);
@@ -120,10 +82,10 @@ impl Hart {
         requires { ⌜ (place < 29) × (row ≡ rowOf (at place)) ⌝ }
         ensures { λ r. ⌜ r ≡ accessRow self own place row form w writes ⌝ }
     {
-        let verdict = privilege::access::access(self.context(), place, row, writes);
-        let to = reached(self.v, row.level, place);
+        let verdict = csr::verdict(self.context(), place, row, writes);
+        let to = csr::reached(self.v, row.level, place);
         let old = self.seen(to);
-        let next = self.written(to, row.mask, combine(form, old, w), writes);
+        let next = self.written(to, row.mask, csr::combine(form, old, w), writes);
         let s = self.settle(
             own,
             verdict,

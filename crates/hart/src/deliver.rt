@@ -2,9 +2,9 @@
 ghost use mathlib.Core.Path.{_≡_};
 ghost use Rattle.hart.specs.Deliver.{deliveredM, deliveredHS, deliveredVS, delivered};
 use crate::state::Hart;
-use privilege::traps::Target;
-use privilege::traps::Trap;
 use registers::places;
+use traps::Target;
+use traps::Trap;
 
 impl Hart {
     fn deliver_m(mut self, t: Trap) -> Hart
@@ -65,7 +65,7 @@ impl Hart {
     pub fn deliver(self, t: Trap) -> Hart
         ensures { λ r. ⌜ r ≡ delivered self t ⌝ }
     {
-        let to = privilege::traps::delivers_to(
+        let to = traps::delivers_to(
             self.context(),
             self.regs[places::MEDELEG],
             self.regs[places::HEDELEG],

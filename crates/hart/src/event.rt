@@ -3,7 +3,7 @@ ghost use mathlib.Core.Path.{_≡_};
 ghost use Rattle.hart.specs.Event.{trapped, raised, settled, done, moved};
 use crate::state::Hart;
 use privilege::mode::Verdict;
-use privilege::traps::Trap;
+use traps::Trap;
 
 // The event was done, it trapped with a cause, or it was refused with document 01's number.
 pub enum Outcome {
@@ -23,8 +23,9 @@ impl Hart {
         ensures { λ r. ⌜ r ≡ trapped self t ⌝ }
     {
         let cause = t.cause;
+        let next = self.deliver(t);
         Step {
-            hart: self.deliver(t),
+            hart: next,
             outcome: Outcome::Trapped(cause),
         }
     }

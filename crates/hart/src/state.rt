@@ -1,7 +1,7 @@
 // What a hart holds, and check 2.
 ghost use mathlib.Core.Path.{_≡_};
 ghost use Prim.Native.Nat.{_+_, _%_, _^_};
-ghost use Rattle.hart.specs.Hart.{context, registersPass, passes};
+ghost use Rattle.hart.specs.Hart.{reset, context, registersPass, passes};
 use privilege::mode::Context;
 use registers::fields::MPRV;
 use registers::masks;
@@ -17,6 +17,22 @@ pub struct Hart {
 }
 
 impl Hart {
+    // Every register holds what a write of 0 leaves.
+    pub fn reset(v: u64, privilege: u64, pc: u64) -> Hart
+        ensures { λ r. ⌜ r ≡ reset v privilege pc ⌝ }
+    {
+        let mut regs = [0u64; 29];
+        regs[places::VSSTATUS] = masks::STATUS_FIXED;
+        regs[places::MSTATUS] = masks::MSTATUS_FIXED;
+        regs[places::HSTATUS] = masks::HSTATUS_FIXED;
+        Hart {
+            v,
+            privilege,
+            pc,
+            regs,
+        }
+    }
+
     // What an instruction's permission depends on.
     pub fn context(self) -> Context
         ensures { λ r. ⌜ r ≡ context self ⌝ }

@@ -1,20 +1,10 @@
 // Trap requests, environment calls and breakpoints.
 ghost use mathlib.Core.Path.{_≡_};
-ghost use Rattle.hart.specs.Trap.{callCause, trap, ecall, ebreak};
+ghost use Rattle.hart.specs.Trap.{trap, ecall, ebreak};
 use crate::event::Step;
 use crate::state::Hart;
-use privilege::mode::Context;
 use privilege::mode::Verdict;
-use privilege::traps;
-use privilege::traps::Trap;
-
-// The cause of an environment call, by mode.
-fn call_cause(c: Context) -> u64
-    ensures { λ r. ⌜ r ≡ callCause c ⌝ }
-{
-    let other = bits::select(c.is_hs(), 9, 8);
-    bits::select(c.is_m(), 11, bits::select(c.is_vs(), 10, other))
-}
+use traps::Trap;
 
 impl Hart {
     // A trap request.
@@ -36,7 +26,7 @@ impl Hart {
     pub fn ecall(self) -> Step
         ensures { λ r. ⌜ r ≡ ecall self ⌝ }
     {
-        let cause = call_cause(self.context());
+        let cause = traps::call_cause(self.context());
         let t = Trap {
             cause,
             value: 0,

@@ -10,7 +10,7 @@ use Rattle.hart.specs.declared.state.Hart.{Hart}
 use Rattle.hart.specs.declared.event.Outcome.{Outcome}
 use Rattle.hart.specs.declared.event.Outcome.the-variants.{Done, Trapped, Refused}
 use Rattle.hart.specs.declared.event.Step.{Step}
-use Rattle.hart.specs.declared.access.Form.{Form}
+use Rattle.csr.specs.declared.Form.{Form}
 use Rattle.hart.specs.Access.{valueOf, accessRow, accessFound, access}
 use Rattle.invariants.specs.Events.{Event, run}
 use Rattle.invariants.proofs.Comes.{Comes, refuses, traps, mrets, srets-VS, srets-HS, moves, writes, comes}

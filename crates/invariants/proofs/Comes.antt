@@ -11,18 +11,20 @@ use Rattle.registers.specs.declared.table.Found.the-variants.{At, Nothing}
 use Rattle.registers.specs.Table.{at, rowOf, table, firstAt}
 use Rattle.registers.proofs.Rows.{lookup-found}
 use Rattle.privilege.specs.declared.mode.Verdict.{Verdict}
-use Rattle.privilege.specs.declared.traps.Trap.{Trap}
+use Rattle.traps.specs.declared.Trap.{Trap}
 use Rattle.privilege.specs.Mode.{isM}
-use Rattle.privilege.specs.Access as permission
+use Rattle.csr.specs.Access as csr
+use Rattle.traps.specs.Delivery.{callCause}
 use Rattle.hart.specs.declared.state.Hart.{Hart}
 use Rattle.hart.specs.declared.event.Step.{Step}
-use Rattle.hart.specs.declared.access.Form.{Form}
+use Rattle.csr.specs.declared.Form.{Form}
 use Rattle.hart.specs.Hart.{context, passes}
 use Rattle.hart.specs.Event.{done, refused, trapped, cause-only, moved, settled}
-use Rattle.hart.specs.Trap.{trap, ecall, ebreak, callCause, breakpoint}
+use Rattle.hart.specs.Trap.{trap, ecall, ebreak, breakpoint}
 use Rattle.hart.specs.Return.{returnedM, returnedHS, returnedVS, mret, sret}
 use Rattle.hart.specs.Wait.{wfi, sfenceVma, hfenceVvma, hfenceGvma}
-use Rattle.hart.specs.Access.{reached, written, accessRow, accessFound, access}
+use Rattle.csr.specs.Access.{reached}
+use Rattle.hart.specs.Access.{written, accessRow, accessFound, access}
 use Rattle.invariants.specs.Events.{Event, stepOf, run}
 use Rattle.invariants.specs.Events as events
 use Rattle.invariants.proofs.Settled.{settled-cases}
@@ -39,7 +41,7 @@ pub data Comes (h : Hart) : Step → Type 0 where
   srets-VS : passes h ≡ true → h .v ≡ 1 → Comes h (done (returnedVS h))
   srets-HS : passes h ≡ true → eqb (h .v) 1 ≡ false → Comes h (done (returnedHS h))
   moves : passes h ≡ true → Comes h (done (moved h))
-  writes : passes h ≡ true → (place : ℕ) → place < 29 → (w : Bool) → Allowed (permission.access (context h) place (rowOf (at place)) w) → (x : ℕ)
+  writes : passes h ≡ true → (place : ℕ) → place < 29 → (w : Bool) → Allowed (csr.verdict (context h) place (rowOf (at place)) w) → (x : ℕ)
       → Comes h (done (written h (reached (h .v) (at place .level) place) x w))
 
 -- an event whose finished step is one of them

@@ -8,22 +8,22 @@ use borrow.Author.Tests.{eq-eqb}
 use lib.Seq.{getD-set-other}
 use Rattle.bits.specs.Field.{pick}
 use Rattle.bits.specs.Every.{every}
-use Rattle.bits.proofs.Bools.{and-left, clash}
+use Rattle.bits.proofs.Bools.{and-left, clash, or-left, or-right, and-rest}
 use Rattle.bits.proofs.Every.{every-at}
 use Rattle.registers.specs.Fields.{TVM, VTVM}
 use Rattle.registers.specs.Places.{satp, hgatp}
 use Rattle.registers.specs.Rules.{stores-nothing}
 use Rattle.registers.specs.Table.{hypervisor, machine, Register, register, registers, at, rowOf}
 use Rattle.privilege.specs.Mode.{isU, isHS, isM, isVU, isVS, isSet}
-use Rattle.privilege.specs.Access as permission
+use Rattle.csr.specs.Access as csr
 use Rattle.hart.specs.declared.state.Hart.{Hart}
 use Rattle.hart.specs.declared.event.Outcome.the-variants.{Done, Trapped, Refused}
 use Rattle.hart.specs.declared.event.Step.{Step}
 use Rattle.hart.specs.Hart.{reg, context, passes}
 use Rattle.hart.specs.Return.{writesVSRET, returnedVS}
-use Rattle.hart.specs.Access.{reached, home, written}
+use Rattle.csr.specs.Access.{reached, home}
+use Rattle.hart.specs.Access.{written}
 use Rattle.invariants.specs.Events.{Event, run}
-use Rattle.invariants.proofs.Logic.{or-left, or-right, and-rest}
 use Rattle.invariants.proofs.Mode.{Mode, U, HS, M, VU, VS, passing}
 use Rattle.invariants.proofs.Writes.{apart, outside-kept}
 use Rattle.invariants.proofs.Comes.{Allowed, Comes, refuses, traps, mrets, srets-VS, srets-HS, moves, writes, comes}
@@ -51,7 +51,7 @@ not-machine r u hs v m e t = and-rest v m t (or-right hs _ (or-right u _ (or-rig
 not-hypervisor : (vs t hyp vu : Bool) → (vs && (t || hyp) || vu) ≡ false → vs ≡ true → hyp ≡ false
 not-hypervisor vs t hyp vu e s = or-right t hyp (and-rest vs (t || hyp) s (or-left (vs && (t || hyp)) vu e))
 
-reached-guest : (h : Hart) (place : ℕ) (w : Bool) → passes h ≡ true → h .v ≡ 1 → place < 29 → Allowed (permission.access (context h) place (rowOf (at place)) w)
+reached-guest : (h : Hart) (place : ℕ) (w : Bool) → passes h ≡ true → h .v ≡ 1 → place < 29 → Allowed (csr.verdict (context h) place (rowOf (at place)) w)
     → guest (home (reached (h .v) (at place .level) place)) ≡ true
 reached-guest h place w p v l a =
     let c = context h in

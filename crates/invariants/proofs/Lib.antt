@@ -1,4 +1,3 @@
-pub mod Logic
 pub mod Mode
 pub mod Writes
 pub mod Settled
@@ -7,3 +6,4 @@ pub mod Passing
 pub mod Answers
 pub mod Sides
 pub mod Guest
+pub mod Known

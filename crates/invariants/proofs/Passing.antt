@@ -14,7 +14,7 @@ use Rattle.bits.specs.declared.Field.{Field}
 use Rattle.bits.specs.Field.{pick, top, get, put, has, copy}
 use Rattle.bits.specs.Assign.{_after_, _:=_}
 use Rattle.bits.specs.Every.{every}
-use Rattle.bits.proofs.Bools.{and-left, and-right, split, both, or-cases, clash, and-false, pick-both}
+use Rattle.bits.proofs.Bools.{and-left, and-right, split, both, or-cases, clash, and-false, pick-both, or-left, or-right, and-rest, and-comm}
 use Rattle.bits.proofs.Masks.{and-or, and-assoc}
 use Rattle.bits.proofs.Fields.{get-lt, get-and, get-or, get-all}
 use Rattle.bits.proofs.Tests.{fits, apart, outside, got}
@@ -29,22 +29,23 @@ use Rattle.registers.proofs.Rows.{row-sound}
 use Rattle.status.specs.Trap.{intoM, intoS, intoH}
 use Rattle.status.specs.Return.{fromM, fromS, fromHS, fromH}
 use Rattle.status.proofs.Kept.{stays, Privilege, intoM-fine}
-use Rattle.privilege.specs.declared.traps.Trap.{Trap}
-use Rattle.privilege.specs.declared.traps.Target.{Target}
-use Rattle.privilege.specs.declared.traps.Target.the-variants.{M, HS, VS}
-use Rattle.privilege.specs.Delivery.{target}
+use Rattle.traps.specs.declared.Trap.{Trap}
+use Rattle.traps.specs.declared.Target.{Target}
+use Rattle.traps.specs.declared.Target.the-variants.{M, HS, VS}
+use Rattle.traps.specs.Delivery.{target}
 use Rattle.privilege.specs.Mode.{isU, isHS, isM, isSet}
-use Rattle.privilege.specs.Access as permission
+use Rattle.csr.specs.Access as csr
 use Rattle.hart.specs.declared.state.Hart.{Hart}
 use Rattle.hart.specs.declared.event.Step.{Step}
 use Rattle.hart.specs.Hart.{reg, Write, _↢_, _with_, context, holds, passes}
 use Rattle.hart.specs.Deliver.{base, writesM, writesHS, writesVS, deliveredM, deliveredHS, deliveredVS, deliveredTo, delivered}
 use Rattle.hart.specs.Event.{refusal, next, moved}
 use Rattle.hart.specs.Return.{writesMRET, writesHSRET, writesVSRET, returnedM, returnedHS, returnedVS}
-use Rattle.hart.specs.Access.{reached, home, written}
+use Rattle.csr.specs.Access.{reached, home}
+use Rattle.hart.specs.Access.{written}
+use Rattle.hart.proofs.Registers.{word-legal}
 use Rattle.hart.proofs.Reach.{reached-bound}
 use Rattle.invariants.specs.Events.{Event, run}
-use Rattle.invariants.proofs.Logic.{or-left, or-right, and-rest, and-comm}
 use Rattle.invariants.proofs.Mode.{Mode, Passing, passing, passes-of}
 use Rattle.invariants.proofs.Mode as mode
 use Rattle.invariants.proofs.Writes.{allIn, outside-kept, with-holds}
@@ -56,10 +57,6 @@ use Rattle.invariants.proofs.Comes.{Allowed, Comes, refuses, traps, mre
 -- a place other than sstatus's holds what is legal there
 legal-at : (h : Hart) (place : ℕ) → eqb place sstatus ≡ false → Passing h → length (h .regs) ≡ 29 → place < 29 → legal (at place .rule) (reg h place) ≡ true
 legal-at h place n p l b = rw n at (every-at holds (h .regs) 0 (p .regs) place (omega arith))
-
-word-legal : (x : ℕ) → legal stores-word x ≡ true
-unfolding legal
-word-legal x = rw (and-zero-r x)
 
 epc-legal : (x : ℕ) → x % 4 ≡ 0 → legal stores-epc x ≡ true
 unfolding legal
@@ -263,7 +260,7 @@ only-M v p mode.M a b c = refl
 only-M v p mode.VU a b c = sym c
 only-M v p mode.VS a b c = sym c
 
-in-M : (h : Hart) (place : ℕ) (w : Bool) → Passing h → Allowed (permission.access (context h) place (rowOf (at place)) w) → eqb (at place .level) machine ≡ true → isM (context h) ≡ true
+in-M : (h : Hart) (place : ℕ) (w : Bool) → Passing h → Allowed (csr.verdict (context h) place (rowOf (at place)) w) → eqb (at place .level) machine ≡ true → isM (context h) ≡ true
 in-M h place w p a m =
     let c = context h in
     let k = machine-allowed (w && at place .read-only) (isU c) (isHS c) (eqb (h .v) 1) (eqb (at place .level) machine) (isSet TVM (c .mstatus) && (eqb place satp || eqb place hgatp)) (a .not2) m in

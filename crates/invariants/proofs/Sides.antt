@@ -8,16 +8,17 @@ use lib.ListN.{getD, set}
 use lib.Seq.{getD-set-other}
 use Rattle.registers.specs.Places.{vsstatus, vsatp, medeleg, hedeleg}
 use Rattle.registers.specs.Table.{at}
-use Rattle.privilege.specs.declared.traps.Trap.{Trap}
-use Rattle.privilege.specs.declared.traps.Target.{Target}
-use Rattle.privilege.specs.declared.traps.Target.the-variants.{M, HS, VS}
-use Rattle.privilege.specs.Delivery.{target}
+use Rattle.traps.specs.declared.Trap.{Trap}
+use Rattle.traps.specs.declared.Target.{Target}
+use Rattle.traps.specs.declared.Target.the-variants.{M, HS, VS}
+use Rattle.traps.specs.Delivery.{target}
 use Rattle.hart.specs.declared.state.Hart.{Hart}
 use Rattle.hart.specs.declared.event.Step.{Step}
 use Rattle.hart.specs.Hart.{reg, context}
 use Rattle.hart.specs.Deliver.{writesM, writesHS, writesVS, deliveredM, deliveredHS, deliveredVS, deliveredTo, delivered}
 use Rattle.hart.specs.Return.{writesMRET, writesHSRET, writesVSRET, returnedM, returnedHS, returnedVS}
-use Rattle.hart.specs.Access.{reached, home, written}
+use Rattle.csr.specs.Access.{reached, home}
+use Rattle.hart.specs.Access.{written}
 use Rattle.invariants.specs.Events.{Event, run}
 use Rattle.invariants.proofs.Writes.{apart, outside-kept}
 use Rattle.invariants.proofs.Comes.{Comes, refuses, traps, mrets, srets-VS, srets-HS, moves, writes, comes}

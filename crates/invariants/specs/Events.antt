@@ -1,11 +1,11 @@
 -- Every event of the hart but translation, so that a theorem can speak of any of them.
 use mathlib.Core.Bool.{Bool}
 use Prim.Native.Nat.{ℕ}
-use Rattle.privilege.specs.declared.traps.Trap.{Trap}
+use Rattle.traps.specs.declared.Trap.{Trap}
 use Rattle.hart.specs.declared.state.Hart.{Hart}
 use Rattle.hart.specs.declared.event.Outcome.{Outcome}
 use Rattle.hart.specs.declared.event.Step.{Step}
-use Rattle.hart.specs.declared.access.Form.{Form}
+use Rattle.csr.specs.declared.Form.{Form}
 use Rattle.hart.specs.declared.access.Accessed.{Accessed}
 use Rattle.hart.specs.Event.{step}
 use Rattle.hart.specs.Trap as traps

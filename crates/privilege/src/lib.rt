@@ -1,5 +1,3 @@
-// Who may do what, and where a trap goes.
-pub mod access;
+// The five modes, and what MRET, SRET, WFI and the fences give in each.
 pub mod instructions;
 pub mod mode;
-pub mod traps;

@@ -8,8 +8,8 @@ use Rattle.hart.proofs.state.Hart.access_row.Tie as tie
 context-requires : tie.Need-context-requires
 context-requires c κs = search needs
 
-access-requires : tie.Need-access-requires
-access-requires c κs = search needs
+verdict-requires : tie.Need-verdict-requires
+verdict-requires c κs = search needs
 
 reached-requires : tie.Need-reached-requires
 reached-requires c κs = search needs
@@ -32,14 +32,14 @@ answer-requires c κs = search needs
 returns : tie.Need-returns
 unfolding accessRow
 returns c = rw
-    (c .answer .ensures, c .before .settle .ensures, c .before .before .written .ensures, c .before .before .before .combine .ensures, c .before .before .before .before .seen .ensures, c .before .before .before .before .before .reached .ensures, c .before .before .before .before .before .before .access .ensures, c .before .before .before .before .before .before .before .context .ensures)
+    (c .answer .ensures, c .before .settle .ensures, c .before .before .written .ensures, c .before .before .before .combine .ensures, c .before .before .before .before .seen .ensures, c .before .before .before .before .before .reached .ensures, c .before .before .before .before .before .before .verdict .ensures, c .before .before .before .before .before .before .before .context .ensures)
 
 pub access-row-spec : {M : Type 1} → statement M
 access-row-spec =
     tie.close
     (tie.spec
     context-requires
-    access-requires
+    verdict-requires
     reached-requires
     seen-requires
     combine-requires

@@ -4,7 +4,8 @@ use Prim.Native.Nat.{ℕ, _<_}
 use native.Mathlib.Omega.{arith}
 use Rattle.registers.specs.Rules.{stored}
 use Rattle.hart.specs.Event.{next}
-use Rattle.hart.specs.Access.{home, written}
+use Rattle.csr.specs.Access.{home}
+use Rattle.hart.specs.Access.{written}
 use Rattle.hart.proofs.Reach.{home-bound, set-picked}
 use borrow.Author.Needs.{needs}
 use Rattle.hart.proofs.state.Hart.written.Statement.{statement}

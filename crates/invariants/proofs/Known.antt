@@ -1,0 +1,65 @@
+-- The starred known replays of registers and returns (document 01), as one computed table. Assumes nothing.
+use mathlib.Core.Path.{_≡_, refl}
+use mathlib.Core.Bool.{Bool, true, _&&_}
+use mathlib.Core.List.{List, [], _∷_}
+use Prim.Native.Nat.{ℕ}
+use lib.Dec.{eqb}
+use lib.Bits.{bitOr}
+use Rattle.bits.specs.Field.{top, get, put}
+use Rattle.bits.specs.Assign.{_after_, _:=_}
+use Rattle.bits.specs.Every.{every}
+use Rattle.registers.specs.Fields.{MPP, MPV}
+use Rattle.registers.specs.Places.{mstatus}
+use Rattle.registers.specs.Rules.{legal, stored}
+use Rattle.registers.specs.Table.{firstAt}
+use Rattle.hart.specs.declared.state.Hart.{Hart}
+use Rattle.hart.specs.declared.event.Outcome.{Outcome}
+use Rattle.hart.specs.declared.event.Outcome.the-variants.{Done, Trapped, Refused}
+use Rattle.hart.specs.declared.access.Accessed.{Accessed}
+use Rattle.hart.specs.Hart.{reg, _↢_, _with_, reset, registersPass, passes}
+use Rattle.hart.specs.Deliver.{deliveredM, deliveredHS, deliveredVS, delivered}
+use Rattle.hart.specs.Event.{settled}
+use Rattle.hart.specs.Return.{returnedM, mret}
+use Rattle.hart.specs.Access.{written, accessRow, access, read, write}
+
+-- what a replay answers, and what it should
+pub record Replay : Type 0 where
+  pub answer : ℕ
+  pub known : ℕ
+
+infix 70 _gives_
+abbrev _gives_ : ℕ → ℕ → Replay
+a gives k = record { answer = a; known = k }
+
+-- all ones written to a register of a reset hart in M, and read back
+abbrev all-ones : ℕ → ℕ
+all-ones number = read (write (reset 0 3 0) number top .hart) number .value
+
+abbrev cause : Accessed → ℕ
+cause a = of (a .outcome)
+  where
+    of : Outcome → ℕ
+    of Done = 0
+    of (Trapped c) = c
+    of (Refused n) = 0
+
+-- in M, with MPP=3 and MPV=1
+abbrev stays : Hart
+stays = record { v = 0; privilege = 3; pc = 0; regs = reset 0 3 0 .regs with (mstatus ↢ (reg (reset 0 3 0) mstatus after (MPP := 3 ∷ MPV := 1 ∷ [])) ∷ []) }
+
+abbrev replays : List Replay
+replays =
+    all-ones 0x602 gives 0xB1FF ∷  -- hedeleg
+    all-ones 0x302 gives 0xF0B7FF ∷  -- medeleg
+    all-ones 0x600 gives 0x2007003C0 ∷  -- hstatus
+    all-ones 0x100 gives 0x2000C0122 ∷  -- sstatus
+    all-ones 0x300 gives 0xCA007E19AA ∷  -- mstatus
+    all-ones 0x680 gives 0x03FFFFFFFFFFFFFC ∷  -- hgatp
+    cause (read (reset 1 1 0) 0xE12) gives 22 ∷  -- hgeip in VS
+    cause (write (reset 1 1 0) 0xE12 0) gives 2 ∷
+    mret stays .hart .v gives 0 ∷  -- MRET stays in M
+    mret stays .hart .privilege gives 3 ∷ []
+
+pub known : every (λ i (r : Replay). eqb (r .answer) (r .known)) 0 replays ≡ true
+unfolding every get put legal stored firstAt registersPass passes deliveredM deliveredHS deliveredVS delivered settled returnedM mret written accessRow access
+known = refl
