@@ -2,7 +2,7 @@
 use mathlib.Core.Bool.{Bool, _&&_, _||_}
 use Prim.Native.Nat.{ℕ, _+_, _-_}
 use lib.Bits.{bitAnd, bitOr}
-use lib.Dec.{eqb}
+use lib.Dec.{eqb, ltb}
 use Rattle.bits.specs.Field.{pick, top}
 use Rattle.registers.specs.declared.table.Row.{Row}
 use Rattle.registers.specs.Fields.{TVM, VTVM}
@@ -14,6 +14,10 @@ use Rattle.csr.specs.declared.Form.{Form}
 use Rattle.csr.specs.declared.Form.the-variants.{Read, Write, Set, Clear}
 use Rattle.privilege.specs.Mode.{isU, isHS, isVU, isVS, isSet}
 use Rattle.privilege.specs.Mode as mode
+
+-- refusal 5: register number over 4095; 0: none
+abbrev pub refusal : ℕ → ℕ
+refusal number = pick (ltb 4095 number) 5 0
 
 -- an access to the register at a place, whose row this is; whether it writes
 abbrev pub verdict : Context → ℕ → Row → Bool → Verdict

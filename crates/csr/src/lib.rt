@@ -1,12 +1,16 @@
 // Control and status register access: what it gives, which register it reaches, and what it writes.
 ghost use mathlib.Core.Path.{_≡_};
 ghost use Prim.Native.Nat.{_<_};
-ghost use Rattle.csr.specs.Access.{verdict, combined, reached, home};
+ghost use Rattle.csr.specs.Access.{refusal, verdict, combined, reached, home};
+ghost use Rattle.bits.specs.Field.{pick};
+ghost use Rattle.registers.specs.Rules.{stored};
+ghost use Rattle.registers.specs.Table.{at};
 use privilege::mode::Context;
 use privilege::mode::Verdict;
 use registers::fields::TVM;
 use registers::fields::VTVM;
 use registers::places;
+use registers::rules;
 use registers::table;
 use registers::table::Row;
 
@@ -15,6 +19,13 @@ pub enum Form {
     Write,
     Set,
     Clear,
+}
+
+// Refusal 5, or 0: a register number over 4095.
+pub fn refusal(number: u64) -> u64
+    ensures { λ r. ⌜ r ≡ refusal number ⌝ }
+{
+    bits::select(4095 < number, 5, 0)
 }
 
 // An access to the register of a row, at its place in the table.
@@ -63,4 +74,14 @@ pub fn home(place: usize) -> usize
         return places::MSTATUS;
     }
     place
+}
+
+// What is stored at the register's home, where old is held and x is written, if the access writes.
+pub fn store(place: usize, mask: u64, old: u64, x: u64, writes: bool) -> u64
+    requires { ⌜ mask ≡ at place .rule .mask ⌝ }
+    ensures { λ r. ⌜ r ≡ pick writes (stored (at place .rule) old x) old ⌝ }
+{
+    let taken = rules::take(place, old, x);
+    let new = (old & !mask) | (taken & mask);
+    bits::select(writes, new, old)
 }

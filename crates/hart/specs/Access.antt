@@ -3,7 +3,7 @@ use mathlib.Core.Bool.{Bool, true, false, _&&_}
 use mathlib.Core.List.{List, [], _∷_}
 use Prim.Native.Nat.{ℕ, _+_, _-_}
 use lib.Bits.{bitAnd, bitOr}
-use lib.Dec.{eqb, ltb}
+use lib.Dec.{eqb}
 use lib.ListN as list
 use Rattle.bits.specs.Field.{pick, top, bits}
 use Rattle.registers.specs.declared.table.Row.{Row}
@@ -60,9 +60,8 @@ abbrev pub accessFound : Found → Hart → ℕ → Form → ℕ → Bool → Ac
 accessFound Nothing h own form w writes = answer (settled h own (verdict true false) (done h)) 0
 accessFound (At place row) h own form w writes = accessRow h own place row form w writes
 
--- refusal 5: register number over 4095
 unfoldable pub access : Hart → Form → ℕ → ℕ → Bool → Accessed
-access h form number w writes = accessFound (firstAt table number 0) h (pick (ltb 4095 number) 5 0) form w writes
+access h form number w writes = accessFound (firstAt table number 0) h (csr.refusal number) form w writes
 
 abbrev pub read : Hart → ℕ → Accessed
 read h number = access h Read number 0 false

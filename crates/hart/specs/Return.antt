@@ -3,9 +3,9 @@ use mathlib.Core.List.{List, [], _∷_}
 use lib.Dec.{eqb}
 use Rattle.bits.specs.Field.{pick, get}
 use Rattle.bits.specs.Assign.{_after_}
-use Rattle.registers.specs.Fields.{MPP, MPV, SPP, SPV}
+use Rattle.registers.specs.Fields.{MPP, SPP, SPV}
 use Rattle.registers.specs.Places.{sepc, vsstatus, vsepc, mstatus, mepc, hstatus}
-use Rattle.status.specs.Return.{fromM, fromS, fromHS, fromH}
+use Rattle.status.specs.Return.{vAfterMret, fromM, fromS, fromHS, fromH}
 use Rattle.privilege.specs.Instructions as instructions
 use Rattle.hart.specs.declared.state.Hart.{Hart}
 use Rattle.hart.specs.declared.event.Step.{Step}
@@ -18,7 +18,7 @@ writesMRET h = mstatus ↢ (reg h mstatus after fromM (reg h mstatus)) ∷ []
 
 unfoldable pub returnedM : Hart → Hart
 returnedM h = record {
-  v = pick (eqb (get MPP (reg h mstatus)) 3) 0 (get MPV (reg h mstatus));
+  v = vAfterMret (reg h mstatus);
   privilege = get MPP (reg h mstatus);
   pc = reg h mepc;
   regs = h .regs with writesMRET h;

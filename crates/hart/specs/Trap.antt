@@ -1,12 +1,11 @@
 -- Trap requests, environment calls and breakpoints (document 01, "Traps and returns").
 use mathlib.Core.Bool.{false}
-use lib.Dec.{eqb}
 use Rattle.bits.specs.Field.{pick}
 use Rattle.privilege.specs.declared.mode.Verdict.{Verdict}
 use Rattle.traps.specs.declared.Trap.{Trap}
 use Rattle.privilege.specs.Mode.{verdict}
 use Rattle.traps.specs.Request.{impossible}
-use Rattle.traps.specs.Delivery.{callCause}
+use Rattle.traps.specs.Delivery.{callCause, breakpoint}
 use Rattle.hart.specs.declared.state.Hart.{Hart}
 use Rattle.hart.specs.declared.event.Step.{Step}
 use Rattle.hart.specs.Hart.{context}
@@ -23,9 +22,5 @@ trap h t = settled h (pick (impossible (context h) t) 4 0) allowed (trapped h t)
 unfoldable pub ecall : Hart → Step
 ecall h = settled h 0 allowed (raised h (callCause (context h)))
 
--- breakpoint: value pc, flag = V; second value and word are 0
-abbrev pub breakpoint : Hart → Trap
-breakpoint h = record { cause = 3; value = h .pc; second = 0; word = 0; flag = eqb (h .v) 1 }
-
 unfoldable pub ebreak : Hart → Step
-ebreak h = settled h 0 allowed (trapped h (breakpoint h))
+ebreak h = settled h 0 allowed (trapped h (breakpoint (h .v) (h .pc)))

@@ -10,7 +10,6 @@ use csr::Form;
 use privilege::mode::Verdict;
 use registers::masks;
 use registers::places;
-use registers::rules;
 use registers::table;
 use registers::table::Found;
 use registers::table::Row;
@@ -63,9 +62,7 @@ impl Hart {
     {
         let kept = csr::home(place);
         let old = self.regs[kept];
-        let taken = rules::take(place, old, x);
-        let new = (old & !mask) | (taken & mask);
-        self.regs[kept] = bits::select(writes, new, old);
+        self.regs[kept] = csr::store(place, mask, old, x, writes);
         self.moved()
     }
 
@@ -101,7 +98,7 @@ impl Hart {
     pub fn access(self, form: Form, number: u64, w: u64, writes: bool) -> Accessed
         ensures { λ r. ⌜ r ≡ access self form number w writes ⌝ }
     {
-        let own = bits::select(4095 < number, 5, 0);
+        let own = csr::refusal(number);
         let found = table::lookup(number);
         let Found::At(place, row) = found else {
             let unlisted = Verdict {

@@ -6,7 +6,6 @@ use crate::event::Step;
 use crate::state::Hart;
 use privilege::instructions;
 use registers::fields::MPP;
-use registers::fields::MPV;
 use registers::fields::SPP;
 use registers::fields::SPV;
 use registers::places;
@@ -16,9 +15,8 @@ impl Hart {
         ensures { λ r. ⌜ r ≡ returnedM self ⌝ }
     {
         let s = self.regs[places::MSTATUS];
-        let mpp = MPP.get(s);
-        self.v = bits::select(mpp == 3, 0, MPV.get(s));
-        self.privilege = mpp;
+        self.v = status::v_after_mret(s);
+        self.privilege = MPP.get(s);
         self.pc = self.regs[places::MEPC];
         self.regs[places::MSTATUS] = status::leave_m(s);
         self

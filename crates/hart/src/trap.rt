@@ -48,13 +48,7 @@ impl Hart {
     pub fn ebreak(self) -> Step
         ensures { λ r. ⌜ r ≡ ebreak self ⌝ }
     {
-        let t = Trap {
-            cause: 3,
-            value: self.pc,
-            second: 0,
-            word: 0,
-            flag: self.v == 1,
-        };
+        let t = traps::breakpoint(self.v, self.pc);
         self.settle(
             0,
             Verdict {

@@ -14,13 +14,13 @@ use Rattle.privilege.specs.declared.mode.Verdict.{Verdict}
 use Rattle.traps.specs.declared.Trap.{Trap}
 use Rattle.privilege.specs.Mode.{isM}
 use Rattle.csr.specs.Access as csr
-use Rattle.traps.specs.Delivery.{callCause}
+use Rattle.traps.specs.Delivery.{callCause, breakpoint}
 use Rattle.hart.specs.declared.state.Hart.{Hart}
 use Rattle.hart.specs.declared.event.Step.{Step}
 use Rattle.csr.specs.declared.Form.{Form}
 use Rattle.hart.specs.Hart.{context, passes}
 use Rattle.hart.specs.Event.{done, refused, trapped, cause-only, moved, settled}
-use Rattle.hart.specs.Trap.{trap, ecall, ebreak, breakpoint}
+use Rattle.hart.specs.Trap.{trap, ecall, ebreak}
 use Rattle.hart.specs.Return.{returnedM, returnedHS, returnedVS, mret, sret}
 use Rattle.hart.specs.Wait.{wfi, sfenceVma, hfenceVvma, hfenceGvma}
 use Rattle.csr.specs.Access.{reached}
@@ -69,7 +69,7 @@ pub comes : (e : Event) (h : Hart) → Comes h (run e h)
 unfolding run trap ecall ebreak mret sret wfi sfenceVma hfenceVvma hfenceGvma access
 comes (events.trap t) h = comes-settled h _ _ _ (λ p a. traps p t)
 comes events.ecall h = comes-settled h 0 _ _ (λ p a. traps p (cause-only (callCause (context h))))
-comes events.ebreak h = comes-settled h 0 _ _ (λ p a. traps p (breakpoint h))
+comes events.ebreak h = comes-settled h 0 _ _ (λ p a. traps p (breakpoint (h .v) (h .pc)))
 comes events.mret h = comes-settled h 0 _ _ (λ p a. mrets p (not-false _ (a .not2)))
 comes events.sret h = comes-settled h 0 _ _ (λ p a. comes-sret h p (eqb (h .v) 1) refl)
 comes events.wfi h = comes-settled h 0 _ _ (λ p a. moves p)

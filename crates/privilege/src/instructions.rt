@@ -58,8 +58,10 @@ pub fn hfence_vvma(c: Context) -> Verdict
 pub fn hfence_gvma(c: Context) -> Verdict
     ensures { λ r. ⌜ r ≡ hfenceGvma c ⌝ }
 {
+    let tvm = c.is_hs() & (TVM.get(c.mstatus) == 1);
+    let guest = c.v == 1;
     Verdict {
-        gives2: c.is_u() | (c.is_hs() & (TVM.get(c.mstatus) == 1)),
-        gives22: c.v == 1,
+        gives2: c.is_u() | tvm,
+        gives22: guest,
     }
 }

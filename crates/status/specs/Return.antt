@@ -6,6 +6,10 @@ use Rattle.bits.specs.Field.{pick, get}
 use Rattle.bits.specs.Assign.{Assignment, _:=_}
 use Rattle.registers.specs.Fields.{SIE, MIE, SPIE, MPIE, SPP, MPP, MPRV, MPV, SPV}
 
+-- MRET: V = MPV unless MPP=3 (then 0)
+abbrev pub vAfterMret : ℕ → ℕ
+vAfterMret s = pick (eqb (get MPP s) 3) 0 (get MPV s)
+
 -- MRET, mstatus: MIE = MPIE, MPIE = 1, MPP = 0, MPV = 0; MPRV = 0 if MPP was not 3
 abbrev pub fromM : ℕ → List Assignment
 fromM s = MIE := get MPIE s ∷ MPIE := 1 ∷ MPP := 0 ∷ MPV := 0 ∷ MPRV := pick (eqb (get MPP s) 3) (get MPRV s) 0 ∷ []

@@ -2,7 +2,7 @@
 ghost use mathlib.Core.Path.{_≡_};
 ghost use Rattle.bits.specs.Assign.{_after_};
 ghost use Rattle.status.specs.Trap.{intoM, intoS, intoH};
-ghost use Rattle.status.specs.Return.{fromM, fromS, fromHS, fromH};
+ghost use Rattle.status.specs.Return.{vAfterMret, fromM, fromS, fromHS, fromH};
 use registers::fields::GVA;
 use registers::fields::HGVA;
 use registers::fields::MIE;
@@ -52,6 +52,13 @@ pub fn leave_m(s: u64) -> u64
         MPIE.get(s),
         MPIE.put(1, MPP.put(0, MPV.put(0, MPRV.put(mprv, s)))),
     )
+}
+
+// V after MRET.
+pub fn v_after_mret(s: u64) -> u64
+    ensures { λ r. ⌜ r ≡ vAfterMret s ⌝ }
+{
+    bits::select(MPP.get(s) == 3, 0, MPV.get(s))
 }
 
 // vsstatus at SRET in VS.

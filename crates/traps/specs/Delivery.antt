@@ -1,9 +1,10 @@
--- Where a trap goes, and the cause of an environment call (document 01, "Delivery").
+-- Where a trap goes; environment calls and breakpoints (document 01, "Traps and returns").
 use mathlib.Core.Bool.{_&&_, _||_, not}
 use Prim.Native.Nat.{ℕ}
 use lib.Dec.{eqb}
 use Rattle.bits.specs.Field.{pick, has}
 use Rattle.privilege.specs.declared.mode.Context.{Context}
+use Rattle.traps.specs.declared.Trap.{Trap}
 use Rattle.traps.specs.declared.Target.{Target}
 use Rattle.traps.specs.declared.Target.the-variants.{M, HS, VS}
 use Rattle.privilege.specs.Mode.{isHS, isM, isVS}
@@ -16,3 +17,7 @@ target c medeleg hedeleg cause =
 -- environment calls give 8 (U, VU), 9, 10, 11
 abbrev pub callCause : Context → ℕ
 callCause c = pick (isM c) 11 (pick (isVS c) 10 (pick (isHS c) 9 8))
+
+-- breakpoint: value pc, flag = V; second value and word are 0
+abbrev pub breakpoint : (v pc : ℕ) → Trap
+breakpoint v pc = record { cause = 3; value = pc; second = 0; word = 0; flag = eqb v 1 }

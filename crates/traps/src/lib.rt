@@ -1,7 +1,7 @@
 // Traps: which requests can't arise, where a trap goes, and the cause of an environment call.
 ghost use mathlib.Core.Path.{_≡_};
 ghost use Rattle.traps.specs.Request.{isCall, isGuestPage, unknown, wrongMode, wrongValue, neverFlagged, wrongFlag, impossible};
-ghost use Rattle.traps.specs.Delivery.{target, callCause};
+ghost use Rattle.traps.specs.Delivery.{target, callCause, breakpoint};
 use privilege::mode::Context;
 
 // A trap: its cause, value, second value, instruction word and guest-address flag.
@@ -93,4 +93,17 @@ pub fn call_cause(c: Context) -> u64
 {
     let other = bits::select(c.is_hs(), 9, 8);
     bits::select(c.is_m(), 11, bits::select(c.is_vs(), 10, other))
+}
+
+// A breakpoint at pc.
+pub fn breakpoint(v: u64, pc: u64) -> Trap
+    ensures { λ r. ⌜ r ≡ breakpoint v pc ⌝ }
+{
+    Trap {
+        cause: 3,
+        value: pc,
+        second: 0,
+        word: 0,
+        flag: v == 1,
+    }
 }

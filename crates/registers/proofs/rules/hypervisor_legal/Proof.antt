@@ -18,7 +18,7 @@ within-requires-3 c κs = search needs
 
 returns : tie.Need-returns
 unfolding legal put
-returns c = cc
+returns c = rw (c .within3 .ensures, c .before .within2 .ensures, c .before .before .within .ensures, c .before .before .before .mode-fits .ensures)
 
 pub hypervisor-legal-spec : {M : Type 1} → statement M
 hypervisor-legal-spec =

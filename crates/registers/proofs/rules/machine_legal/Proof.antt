@@ -21,7 +21,7 @@ within-requires-4 c κs = search needs
 
 returns : tie.Need-returns
 unfolding legal put
-returns c = cc
+returns c = rw (c .within4 .ensures, c .before .within3 .ensures, c .before .before .within2 .ensures, c .before .before .before .within .ensures, c .before .before .before .before .mpp-fits .ensures)
 
 pub machine-legal-spec : {M : Type 1} → statement M
 machine-legal-spec =

@@ -9,7 +9,7 @@ within-requires c κs = search needs
 
 returns : tie.Need-returns
 unfolding legal put
-returns c = cc
+returns c = rw (c .within .ensures)
 
 pub status-legal-spec : {M : Type 1} → statement M
 status-legal-spec = tie.close (tie.spec within-requires returns)

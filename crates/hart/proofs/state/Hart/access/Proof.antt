@@ -5,8 +5,8 @@ use borrow.Author.Needs.{needs}
 use Rattle.hart.proofs.state.Hart.access.Statement.{statement}
 use Rattle.hart.proofs.state.Hart.access.Tie as tie
 
-select-requires : tie.Need-select-requires
-select-requires c κs = search needs
+refusal-requires : tie.Need-refusal-requires
+refusal-requires c κs = search needs
 
 lookup-requires : tie.Need-lookup-requires
 lookup-requires c κs = search needs
@@ -25,7 +25,7 @@ answer-requires c κs = search needs
 
 returns : tie.Need-returns
 unfolding access
-returns c = rw (c .answer .ensures, c .before .settle .ensures, c .before .before .before .before .before .select .ensures, sym (c .before .before .before .before .lookup .ensures) ∙ c .before .before .enum-told .given .1)
+returns c = rw (c .answer .ensures, c .before .settle .ensures, c .before .before .before .before .before .refusal .ensures, sym (c .before .before .before .before .lookup .ensures) ∙ c .before .before .enum-told .given .1)
 
 access-row-requires : tie.Need-access-row-requires
 access-row-requires c κs =
@@ -34,13 +34,13 @@ access-row-requires c κs =
 
 returns-2 : tie.Need-returns-2
 unfolding access
-returns-2 c = rw (c .access-row .ensures, c .before .before .before .before .before .select .ensures, sym (c .before .before .before .before .lookup .ensures) ∙ c .before .before .found .given .1)
+returns-2 c = rw (c .access-row .ensures, c .before .before .before .before .before .refusal .ensures, sym (c .before .before .before .before .lookup .ensures) ∙ c .before .before .found .given .1)
 
 pub access-spec : {M : Type 1} → statement M
 access-spec =
     tie.close
     (tie.spec
-    select-requires
+    refusal-requires
     lookup-requires
     enum-known-found
     enum-told

@@ -3,22 +3,16 @@ use Rattle.bits.specs.Field.{put}
 use borrow.Author.Needs.{needs}
 use Rattle.hart.proofs.state.Hart.reset.Statement.{statement}
 use Rattle.hart.proofs.state.Hart.reset.Tie as tie
-use Rattle.hart.proofs.state.Hart.reset.Reads as reads
-use Rattle.hart.proofs.state.Hart.reset.Lts as lts
 
--- src/state.rt:25:9
 array-write-regs : tie.Need-array-write-regs
 array-write-regs c = search needs
 
--- src/state.rt:26:9
 array-write-regs-2 : tie.Need-array-write-regs-2
 array-write-regs-2 c = search needs
 
--- src/state.rt:27:9
 array-write-regs-3 : tie.Need-array-write-regs-3
 array-write-regs-3 c = search needs
 
--- src/state.rt:21:5
 returns : tie.Need-returns
 unfolding put
 returns c = refl

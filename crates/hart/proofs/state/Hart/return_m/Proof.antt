@@ -6,14 +6,11 @@ use Rattle.hart.proofs.state.Hart.return_m.Tie as tie
 element-copy-out-s : tie.Need-element-copy-out-s
 element-copy-out-s c = search needs
 
+v-after-mret-requires : tie.Need-v-after-mret-requires
+v-after-mret-requires c κs = search needs
+
 get-requires : tie.Need-get-requires
 get-requires c κs = search needs
-
-get-requires-2 : tie.Need-get-requires-2
-get-requires-2 c κs = search needs
-
-select-requires : tie.Need-select-requires
-select-requires c κs = search needs
 
 element-copy-out-self : tie.Need-element-copy-out-self
 element-copy-out-self c = search needs
@@ -26,16 +23,15 @@ element-write-self c = search needs
 
 returns : tie.Need-returns
 unfolding returnedM
-returns c = rw (c .leave-m .ensures, c .before .before .select .ensures, c .before .before .before .get2 .ensures, c .before .before .before .before .get .ensures)
+returns c = rw (c .leave-m .ensures, c .before .before .get .ensures, c .before .before .before .v-after-mret .ensures)
 
 pub return-m-spec : {M : Type 1} → statement M
 return-m-spec =
     tie.close
     (tie.spec
     element-copy-out-s
+    v-after-mret-requires
     get-requires
-    get-requires-2
-    select-requires
     element-copy-out-self
     leave-m-requires
     element-write-self
