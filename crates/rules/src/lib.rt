@@ -203,7 +203,7 @@ pub fn root_index(levels: u64, address: u64) -> u64
 }
 
 // The first stage's test of an address's high bits.
-pub fn extends(levels: u64, address: u64) -> bool
+pub fn is_extended(levels: u64, address: u64) -> bool
     requires { ⌜ levels ≤ 5 ⌝ }
     ensures { λ r. ⌜ r ≡ wellFormed Stage.first levels address ⌝ }
 {
@@ -220,7 +220,7 @@ pub fn extends(levels: u64, address: u64) -> bool
 }
 
 // The second stage's test of an address's high bits.
-pub fn fits(levels: u64, address: u64) -> bool
+pub fn is_small(levels: u64, address: u64) -> bool
     requires { ⌜ levels ≤ 5 ⌝ }
     ensures { λ r. ⌜ r ≡ wellFormed Stage.second levels address ⌝ }
 {

@@ -1,7 +1,7 @@
 use Rattle.rules.specs.Address.{small}
 use borrow.Author.Needs.{needs}
-use Rattle.rules.proofs.fits.Statement.{statement}
-use Rattle.rules.proofs.fits.Tie as tie
+use Rattle.rules.proofs.is_small.Statement.{statement}
+use Rattle.rules.proofs.is_small.Tie as tie
 
 mul-low : tie.Need-mul-low
 mul-low c = search needs
@@ -19,5 +19,5 @@ returns : tie.Need-returns
 unfolding small
 returns c = cc
 
-pub fits-spec : {M : Type 1} → statement M
-fits-spec = tie.close (tie.spec mul-low add-low sub-result get-requires returns)
+pub is-small-spec : {M : Type 1} → statement M
+is-small-spec = tie.close (tie.spec mul-low add-low sub-result get-requires returns)

@@ -1,7 +1,7 @@
 use Rattle.rules.specs.Address.{extended}
 use borrow.Author.Needs.{needs}
-use Rattle.rules.proofs.extends.Statement.{statement}
-use Rattle.rules.proofs.extends.Tie as tie
+use Rattle.rules.proofs.is_extended.Statement.{statement}
+use Rattle.rules.proofs.is_extended.Tie as tie
 
 mul-low : tie.Need-mul-low
 mul-low c = search needs
@@ -34,8 +34,8 @@ returns : tie.Need-returns
 unfolding extended
 returns c = cc
 
-pub extends-spec : {M : Type 1} → statement M
-extends-spec =
+pub is-extended-spec : {M : Type 1} → statement M
+is-extended-spec =
     tie.close
     (tie.spec
     mul-low

@@ -1,0 +1,5 @@
+pub mod Trees
+pub mod Runs
+pub mod Bounds
+pub mod Loops
+pub mod Places
