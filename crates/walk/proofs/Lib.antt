@@ -2,4 +2,6 @@ pub mod Trees
 pub mod Runs
 pub mod Bounds
 pub mod Loops
+pub mod Images
+pub mod Guarded
 pub mod Places
