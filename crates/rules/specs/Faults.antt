@@ -12,6 +12,10 @@ use Rattle.rules.specs.Kind.{by}
 abbrev pub raised : Access → ℕ → ℕ → ℕ → Fault
 raised a cause second word = record { cause = cause; value = a .address; second = second; word = word; flag = a .v }
 
+-- "Misaligned load or store: 4 or 6"; no fetch comes to this.
+abbrev pub misalignment : Access → Fault
+misalignment a = raised a (by (a .kind) 0 4 6) 0 0
+
 -- "access fault 1, 5, 7 by the original access"
 abbrev pub accessFault : Access → Fault
 accessFault a = raised a (by (a .kind) 1 5 7) 0 0

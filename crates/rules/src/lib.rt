@@ -5,7 +5,7 @@ ghost use Rattle.bits.specs.Field.{get};
 ghost use Rattle.rules.specs.Kind.{by};
 ghost use Rattle.rules.specs.Entry.{pointer, reached, granted, faulty, target, offset, judged};
 ghost use Rattle.rules.specs.Address.{Stage, wellFormed, slots, index};
-ghost use Rattle.rules.specs.Faults.{raised, accessFault, pageFault, guestPageFault, entryFault, firstNeed, secondNeed, entryNeed};
+ghost use Rattle.rules.specs.Faults.{raised, misalignment, accessFault, pageFault, guestPageFault, entryFault, firstNeed, secondNeed, entryNeed};
 use bits::Field;
 use bits::has;
 use bits::select;
@@ -94,7 +94,7 @@ impl Kind {
     }
 
     // The test that is this kind's own.
-    fn test(self, fetch: bool, load: bool, store: bool) -> bool
+    pub fn test(self, fetch: bool, load: bool, store: bool) -> bool
         ensures { λ r. ⌜ r ≡ by self fetch load store ⌝ }
     {
         match self {
@@ -245,6 +245,13 @@ impl Access {
             word: 0,
             flag: self.v,
         }
+    }
+
+    // A misaligned load or store.
+    pub fn misalignment(self) -> Fault
+        ensures { λ r. ⌜ r ≡ misalignment self ⌝ }
+    {
+        self.raise(0, 4, 6, 0)
     }
 
     pub fn access_fault(self) -> Fault
