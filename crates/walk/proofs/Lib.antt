@@ -4,4 +4,5 @@ pub mod Bounds
 pub mod Loops
 pub mod Images
 pub mod Guarded
+pub mod Replays
 pub mod Places
