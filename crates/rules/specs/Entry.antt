@@ -1,5 +1,5 @@
 -- The rules of one entry, the same for both stages and every level.
-use mathlib.Core.Bool.{Bool, true, false, _&&_, _||_, not}
+use mathlib.Core.Bool.{Bool, false, _&&_, _||_, not}
 use Prim.Native.Nat.{ℕ, _+_, _*_}
 use lib.Dec.{eqb}
 use Rattle.bits.specs.declared.Field.{Field}

@@ -1,6 +1,6 @@
 // The translation of an access on a hart: refusals, misalignment, the effective mode and the walk.
 ghost use mathlib.Core.Path.{_≡_};
-ghost use Prim.Native.Nat.{_%_, _≤_, _<_};
+ghost use Prim.Native.Nat.{_%_, _<_};
 ghost use Rattle.walk.specs.Place.{outcome};
 ghost use Rattle.translate.specs.Effective.{effective, root, off, firstRoot, secondRoot, inMode, accessOf};
 ghost use Rattle.translate.specs.Translated.{unheard, misaligned, answer, unwalked, translated};

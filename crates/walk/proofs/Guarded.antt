@@ -2,7 +2,7 @@
 use mathlib.Core.Path.{_≡_, refl, sym, ap, subst, _∙_}
 use mathlib.Core.Bool.{Bool, true, false, _&&_, _||_}
 use mathlib.Core.List.{List, [], _∷_, _++_, append-nil, append-assoc}
-use Prim.Native.Nat.{ℕ, zero, suc, _+_, _-_, _*_, _^_, _<_, _≤_}
+use Prim.Native.Nat.{ℕ, zero, suc, _+_, _-_, _*_, _<_}
 use mathlib.Core.Logic.{_⊎_, inl, inr, ⊎-elim}
 use native.Mathlib.Omega.{arith}
 use Rattle.bits.specs.Field.{pick, get, has}
@@ -19,7 +19,7 @@ use Rattle.rules.specs.declared.Need.{Need}
 use Rattle.rules.specs.declared.Verdict.{Verdict}
 use Rattle.rules.specs.declared.Verdict.the-variants.{Pointer, Leaf, Bad}
 use Rattle.rules.specs.Address.{wellFormed, first, second}
-use Rattle.rules.specs.Entry.{R, X, U, pointer, reached, granted, target, offset, judged}
+use Rattle.rules.specs.Entry.{R, X, pointer, reached, granted, target, offset, judged}
 use Rattle.rules.specs.Faults.{accessFault, entryFault, guestPageFault, firstNeed, secondNeed, entryNeed}
 use Rattle.rules.proofs.Verdicts.{is-pointer, is-leaf, leaf-right}
 use Rattle.walk.specs.declared.Read.{Read}

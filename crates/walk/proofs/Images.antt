@@ -1,7 +1,7 @@
 -- Two images of one base and length that agree on the entries listed for one of them give the same answer and list. Assumes nothing.
-use mathlib.Core.Path.{_≡_, refl, sym, ap, _∙_}
+use mathlib.Core.Path.{_≡_, refl, ap}
 use mathlib.Core.Bool.{Bool, true, false}
-use mathlib.Core.List.{List, [], _∷_}
+use mathlib.Core.List.{List}
 use Prim.Native.Nat.{ℕ, _-_}
 use lib.ListN.{length}
 use Rattle.bits.specs.Field.{pick}
@@ -10,7 +10,6 @@ use Rattle.image.specs.declared.Entry.{Entry}
 use Rattle.image.specs.declared.Entry.the-variants.{Value, Outside}
 use Rattle.image.specs.Image.{within, eight, entry}
 use Rattle.rules.specs.declared.Machine.{Machine}
-use Rattle.walk.specs.declared.Read.{Read}
 use Rattle.walk.specs.Tree.{Walk, done, ask, item, listed, found, run}
 use Rattle.walk.specs.Stages.{look}
 use Rattle.walk.specs.Listed.{Agree}

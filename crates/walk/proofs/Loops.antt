@@ -1,5 +1,5 @@
 -- The walk's loop: what is left to do, from a place on, is the whole. Assumes nothing.
-use mathlib.Core.Path.{_≡_, refl, sym, ap, _∙_}
+use mathlib.Core.Path.{_≡_, ap, _∙_}
 use mathlib.Core.List.{List}
 use Prim.Native.Nat.{ℕ, suc, _+_, _-_, _*_, _≤_, _<_}
 use native.Mathlib.Nat.{mul-le-mul}
@@ -10,7 +10,6 @@ use Rattle.bits.specs.Field.{pick}
 use Rattle.image.specs.declared.Entry.{Entry}
 use Rattle.image.specs.declared.Entry.the-variants.{Value, Outside}
 use Rattle.rules.specs.declared.Access.{Access}
-use Rattle.rules.specs.declared.Fault.{Fault}
 use Rattle.rules.specs.declared.Machine.{Machine}
 use Rattle.rules.specs.Faults.{accessFault}
 use Rattle.walk.specs.declared.Next.{Next}
@@ -18,13 +17,13 @@ use Rattle.walk.specs.declared.Next.the-variants.{Look, Ended}
 use Rattle.walk.specs.declared.Place.{Place}
 use Rattle.walk.specs.declared.Read.{Read}
 use Rattle.walk.specs.declared.Reached.{Reached}
-use Rattle.walk.specs.declared.Reached.the-variants.{At, Failed}
+use Rattle.walk.specs.declared.Reached.the-variants.{Failed}
 use Rattle.walk.specs.declared.Walked.{Walked}
-use Rattle.walk.specs.Tree.{Walk, done, ask, item, run}
-use Rattle.walk.specs.Stages.{Outcome, faults, walkOf, machine}
+use Rattle.walk.specs.Tree.{done, item, run}
+use Rattle.walk.specs.Stages.{faults, walkOf, machine}
 use Rattle.walk.specs.Listed.{places, unused, walked}
 use Rattle.walk.specs.Place.{after, rest, SoundNext, Leads}
-use Rattle.walk.proofs.Runs.{Into, into, handed, walked-into, same-reached}
+use Rattle.walk.proofs.Runs.{into, handed, walked-into, same-reached}
 use Rattle.walk.proofs.Bounds.{Within, within-run, within-ask, within-walk, within-more}
 
 module _ (look : Machine → Entry) (base len : ℕ) (a : Access) where

@@ -1,9 +1,9 @@
 -- What is left of the walk at a place, one step at a time. Assumes nothing.
-use mathlib.Core.Path.{_≡_, refl, sym, ap, _∙_}
+use mathlib.Core.Path.{_≡_, refl, sym}
 use mathlib.Core.Bool.{true, false}
-use Prim.Native.Nat.{ℕ, zero, suc, _+_, _-_, _*_, _<_, _≤_}
+use Prim.Native.Nat.{ℕ, zero, suc, _+_, _-_, _*_, _<_}
 use native.Mathlib.Omega.{arith}
-use lib.Dec.{eqb, eqb·suc-zero}
+use lib.Dec.{eqb·suc-zero}
 use Rattle.bits.specs.Field.{pick, get}
 use Rattle.rules.specs.declared.Access.{Access}
 use Rattle.rules.specs.declared.Guest.{Guest}
@@ -11,10 +11,10 @@ use Rattle.rules.specs.declared.Machine.{Machine}
 use Rattle.rules.specs.Address.{wellFormed, first, second, slots, index}
 use Rattle.rules.specs.Faults.{pageFault, entryFault, entryNeed}
 use Rattle.rules.proofs.Indices.{below-root}
-use Rattle.walk.specs.declared.Next.the-variants.{Look, Ended}
+use Rattle.walk.specs.declared.Next.the-variants.{Look}
 use Rattle.walk.specs.declared.Place.{Place}
-use Rattle.walk.specs.Tree.{Walk, done, ask, bind}
-use Rattle.walk.specs.Stages.{Outcome, yields, faults, Translation, onward, _then_, slot, follow, inspect, down, begin, translation, guest, machine, second-of, first-of, last, final, walkOf}
+use Rattle.walk.specs.Tree.{done, bind}
+use Rattle.walk.specs.Stages.{yields, faults, Translation, _then_, slot, inspect, down, begin, translation, guest, machine, second-of, first-of, final, walkOf}
 use Rattle.walk.specs.Place.{faultAt, second-at, below, arrived, entered, rest}
 use Rattle.walk.proofs.Trees.{then-assoc}
 

@@ -6,7 +6,6 @@ use Prim.Native.Nat.{ℕ, _+_, _*_}
 use lib.Dec.{eqb}
 use Rattle.bits.specs.Field.{pick, get}
 use Rattle.image.specs.declared.Entry.the-variants.{Value}
-use Rattle.rules.specs.declared.Access.{Access}
 use Rattle.rules.specs.declared.Kind.the-variants.{Load}
 use Rattle.rules.specs.declared.Machine.{Machine}
 use Rattle.rules.specs.Address.{first, wellFormed, extended, small, index}

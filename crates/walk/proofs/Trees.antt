@@ -1,8 +1,7 @@
 -- Laws of trees of questions. Assumes nothing.
 use mathlib.Core.Path.{_≡_, refl}
-use Prim.Native.Nat.{ℕ}
 use Rattle.walk.specs.Tree.{Walk, done, ask, bind}
-use Rattle.walk.specs.Stages.{Outcome, yields, faults, onward, _then_}
+use Rattle.walk.specs.Stages.{Outcome, yields, faults, _then_}
 
 -- three in turn are grouped either way
 pub then-assoc : {A B C : Type 0} (w : Walk (Outcome A)) (f : A → Walk (Outcome B)) (g : B → Walk (Outcome C)) → w then f then g ≡ w then (λ x. f x then g)

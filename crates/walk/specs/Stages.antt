@@ -1,5 +1,4 @@
 -- The walk written out: one stage, the same for both, and the two in turn.
-use mathlib.Core.Bool.{Bool}
 use mathlib.Core.List.{List}
 use Prim.Native.Nat.{ℕ, zero, suc, _+_, _*_}
 use Rattle.bits.specs.Field.{pick}

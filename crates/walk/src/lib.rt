@@ -1,15 +1,12 @@
 // The walk of an access through both stages, one entry at a time, with its list of reads.
 ghost use mathlib.Core.Path.{_≡_};
 ghost use mathlib.Core.Bool.{true};
-ghost use Prim.Native.Nat.{ℕ, _+_, _-_, _*_, _≤_, _<_, _^_};
+ghost use Prim.Native.Nat.{_+_, _-_, _*_, _≤_, _<_};
 ghost use lib.ListN.{length};
-ghost use Rattle.bits.specs.Field.{pick};
-ghost use Rattle.rules.specs.Entry.{judged};
-ghost use Rattle.rules.specs.Faults.{firstNeed};
-ghost use Rattle.walk.specs.Tree.{run, bind};
-ghost use Rattle.walk.specs.Stages.{look, machine, walkOf, onward, last, final, follow, first-of};
+ghost use Rattle.walk.specs.Tree.{run};
+ghost use Rattle.walk.specs.Stages.{look, walkOf, onward, last};
 ghost use Rattle.walk.specs.Listed.{walked, reached};
-ghost use Rattle.walk.specs.Place.{needAt, faultAt, second-at, below, arrived, entered, outcome, secondAfter, firstAfter, after, Tables, Sound, Leads};
+ghost use Rattle.walk.specs.Place.{needAt, faultAt, arrived, entered, outcome, secondAfter, firstAfter, after, Tables, Sound, Leads};
 use bits::select;
 use image::Entry;
 use image::fetch;

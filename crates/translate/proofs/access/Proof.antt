@@ -1,5 +1,5 @@
-use mathlib.Core.Path.{_≡_, refl, sym, ap, _∙_}
-use Rattle.translate.specs.Effective.{effective, inMode, accessOf}
+use mathlib.Core.Path.{ap, _∙_}
+use Rattle.translate.specs.Effective.{inMode, accessOf}
 use Rattle.translate.specs.declared.Mode.{Mode}
 use borrow.Author.Needs.{needs}
 use Rattle.translate.proofs.access.Statement.{statement}

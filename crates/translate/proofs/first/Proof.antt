@@ -1,4 +1,3 @@
-use mathlib.Core.Path.{sym}
 use borrow.Author.Tests.{eq-eqb, ne-eqb}
 use Rattle.translate.specs.Effective.{firstRoot}
 use borrow.Author.Needs.{needs}

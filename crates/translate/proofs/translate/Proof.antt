@@ -1,9 +1,7 @@
-use mathlib.Core.Path.{_≡_, refl, sym, ap, _∙_}
+use mathlib.Core.Path.{sym, ap, _∙_}
 use mathlib.Core.Bool.{not}
-use Prim.Native.Nat.{ℕ}
 use lib.ListN.{length}
 use denote.Ref.{now}
-use Rattle.rules.specs.declared.Access.{Access}
 use Rattle.rules.specs.Faults.{misalignment}
 use Rattle.walk.specs.Tree.{run}
 use Rattle.walk.specs.Stages.{look, walkOf}

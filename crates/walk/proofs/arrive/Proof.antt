@@ -1,4 +1,4 @@
-use mathlib.Core.Path.{_≡_, refl, ap}
+use mathlib.Core.Path.{refl, ap}
 use native.Mathlib.Omega.{arith}
 use Rattle.walk.specs.Tree.{done}
 use Rattle.walk.specs.Place.{arrived, rest}

@@ -1,4 +1,4 @@
-use mathlib.Core.Path.{_≡_, sym, ap, _∙_}
+use mathlib.Core.Path.{sym, ap, _∙_}
 use Rattle.walk.specs.Stages.{faults, last}
 use borrow.Author.Needs.{needs}
 use Rattle.walk.proofs.conclude.Statement.{statement}
