@@ -1,0 +1,65 @@
+// The image: a base and a lent run of bytes, never written.
+ghost use mathlib.Core.Path.{_≡_};
+ghost use Prim.Native.Nat.{_+_, _<_, _≤_};
+ghost use lib.ListN.{length};
+ghost use Rattle.image.specs.Image.{unfit, within, eight, entry};
+
+// What stands at a machine address: an entry's value, or nothing of the image.
+pub enum Entry {
+    Value(u64),
+    Outside,
+}
+
+// Whether an image is refused as 1.
+pub fn refused(base: u64, len: u64) -> bool
+    ensures { λ r. ⌜ r ≡ unfit base len ⌝ }
+{
+    if 67108864 < len {
+        return true;
+    }
+    (base % 4096 != 0) | (len % 4096 != 0) | (72057594037927936 - len < base)
+}
+
+// Whether the whole access lies in the image. No sum is made, so none wraps.
+pub fn inside(base: u64, len: u64, address: u64, width: u64) -> bool
+    ensures { λ r. ⌜ r ≡ within base len address width ⌝ }
+{
+    if address < base {
+        return false;
+    }
+    if len < width {
+        return false;
+    }
+    address - base <= len - width
+}
+
+fn wide(x: u8) -> u64
+    ensures { λ r. ⌜ (r ≡ x) × (r < 256) ⌝ }
+{
+    x as u64
+}
+
+// The eight bytes from an offset on. The compiler makes one load of it.
+fn load(s: &[u8], at: usize) -> u64
+    requires { ⌜ at + 8 ≤ length (now s) ⌝ }
+    ensures { λ r. ⌜ r ≡ eight (now (s .entry)) at ⌝ }
+{
+    wide(s[at])
+        + wide(s[at + 1]) * 256
+        + wide(s[at + 2]) * 65536
+        + wide(s[at + 3]) * 16777216
+        + wide(s[at + 4]) * 4294967296
+        + wide(s[at + 5]) * 1099511627776
+        + wide(s[at + 6]) * 281474976710656
+        + wide(s[at + 7]) * 72057594037927936
+}
+
+// The entry at a machine address.
+pub fn fetch(base: u64, bytes: &[u8], address: u64) -> Entry
+    ensures { λ r. ⌜ r ≡ entry base (now (bytes .entry)) address ⌝ }
+{
+    if inside(base, bytes.len() as u64, address, 8) {
+        return Entry::Value(load(bytes, (address - base) as usize));
+    }
+    Entry::Outside
+}

@@ -1,0 +1,18 @@
+use borrow.Author.Needs.{needs}
+use Rattle.rules.proofs.Need.reaches.Statement.{statement}
+use Rattle.rules.proofs.Need.reaches.Tie as tie
+
+has-requires : tie.Need-has-requires
+has-requires c κs = search needs
+
+returns : tie.Need-returns
+returns c = cc
+
+test-requires : tie.Need-test-requires
+test-requires c κs = search needs
+
+returns-2 : tie.Need-returns-2
+returns-2 c = cc
+
+pub reaches-spec : {M : Type 1} → statement M
+reaches-spec = tie.close (tie.spec has-requires returns test-requires returns-2)

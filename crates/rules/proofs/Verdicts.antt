@@ -1,0 +1,75 @@
+-- What an entry's verdict tells of it. Assumes nothing.
+use mathlib.Core.Path.{_≡_, refl, sym, _∙_}
+use mathlib.Core.Bool.{Bool, true, false, _&&_, _||_}
+use Prim.Native.Nat.{ℕ, _+_, _^_, _<_}
+use native.Mathlib.Omega.{arith}
+use lib.Dec.{eqb}
+use borrow.Author.Tests.{eqb-false}
+use Rattle.bits.specs.Field.{get, pick}
+use Rattle.bits.proofs.Bools.{clash}
+use Rattle.bits.proofs.Fields.{get-lt}
+use Rattle.rules.specs.declared.Need.{Need}
+use Rattle.rules.specs.declared.Verdict.{Verdict}
+use Rattle.rules.specs.declared.Verdict.the-variants.{Pointer, Leaf, Bad}
+use Rattle.rules.specs.Entry.{PPN, pointer, reached, granted, faulty, target, offset, judged}
+
+or-true : (a : Bool) → (a || true) ≡ true
+or-true true = refl
+or-true false = refl
+
+-- what an entry that is not faulty has, as a pointer and as a leaf
+module _ (n : Need) (level e : ℕ) (good : faulty n level e ≡ false) where
+  pub pointer-high : pointer e ≡ true → eqb level 0 ≡ false
+  unfolding faulty
+  pointer-high p = go (eqb level 0) refl
+    where
+      go : (b : Bool) → eqb level 0 ≡ b → b ≡ false
+      go true z = clash (sym good ∙ simp (p, z, or-true))
+      go false z = refl
+
+  pub leaf-right : pointer e ≡ false → (reached n e && granted n e) ≡ true
+  unfolding faulty
+  leaf-right p = go (reached n e && granted n e) refl
+    where
+      go : (b : Bool) → (reached n e && granted n e) ≡ b → b ≡ true
+      go true z = refl
+      go false z = clash (sym good ∙ simp (p, z, or-true))
+
+pub record IsPointer (n : Need) (level e table : ℕ) : Type 0 where
+  pub good : faulty n level e ≡ false
+  pub pointer : pointer e ≡ true
+  pub to : table ≡ target e
+
+pub record IsLeaf (n : Need) (level address e x : ℕ) : Type 0 where
+  pub good : faulty n level e ≡ false
+  pub leaf : pointer e ≡ false
+  pub to : x ≡ target e + get (offset level) address
+
+module _ (n : Need) (level address e : ℕ) where
+  chosen : Bool → Bool → Verdict
+  chosen f p = pick f Bad (pick p (Pointer (target e)) (Leaf (target e + get (offset level) address)))
+
+  pub is-pointer : (table : ℕ) → judged n level address e ≡ Pointer table → IsPointer n level e table
+  unfolding judged chosen
+  is-pointer table j = go (faulty n level e) (pointer e) refl refl j
+    where
+      go : (f p : Bool) → faulty n level e ≡ f → pointer e ≡ p → chosen f p ≡ Pointer table → IsPointer n level e table
+      go true p f= p= q = clash (cc)
+      go false true f= p= q = record { good = f=; pointer = p=; to = cc }
+      go false false f= p= q = clash (cc)
+
+  pub is-leaf : (x : ℕ) → judged n level address e ≡ Leaf x → IsLeaf n level address e x
+  unfolding judged chosen
+  is-leaf x j = go (faulty n level e) (pointer e) refl refl j
+    where
+      go : (f p : Bool) → faulty n level e ≡ f → pointer e ≡ p → chosen f p ≡ Leaf x → IsLeaf n level address e x
+      go true p f= p= q = clash (cc)
+      go false true f= p= q = clash (cc)
+      go false false f= p= q = record { good = f=; leaf = p=; to = cc }
+
+  -- a pointer stands above level 0, and its table is below 2 ^ 56
+  pub pointer-bounds : (table : ℕ) → judged n level address e ≡ Pointer table → (0 < level) × (table < 2 ^ 56)
+  pointer-bounds table j =
+      let k = is-pointer table j in
+      let z = eqb-false level 0 (pointer-high n level e (k .good) (k .pointer)) in
+      (omega (arith, z), omega (arith, k .to, get-lt PPN e))

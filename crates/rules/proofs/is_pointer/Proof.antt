@@ -1,0 +1,15 @@
+use borrow.Author.Needs.{needs}
+use Rattle.rules.proofs.is_pointer.Statement.{statement}
+use Rattle.rules.proofs.is_pointer.Tie as tie
+
+has-requires : tie.Need-has-requires
+has-requires c κs = search needs
+
+has-requires-2 : tie.Need-has-requires-2
+has-requires-2 c κs = search needs
+
+returns : tie.Need-returns
+returns c = cc
+
+pub is-pointer-spec : {M : Type 1} → statement M
+is-pointer-spec = tie.close (tie.spec has-requires has-requires-2 returns)

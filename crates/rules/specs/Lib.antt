@@ -1,0 +1,4 @@
+pub mod Kind
+pub mod Entry
+pub mod Address
+pub mod Faults

@@ -1,0 +1,325 @@
+// The rules of one page-table entry and of an address, and the faults of an access.
+ghost use mathlib.Core.Path.{_≡_};
+ghost use Prim.Native.Nat.{_+_, _-_, _*_, _<_, _≤_};
+ghost use Rattle.bits.specs.Field.{get};
+ghost use Rattle.rules.specs.Kind.{by};
+ghost use Rattle.rules.specs.Entry.{pointer, reached, granted, faulty, target, offset, judged};
+ghost use Rattle.rules.specs.Address.{Stage, wellFormed, slots, index};
+ghost use Rattle.rules.specs.Faults.{raised, misalignment, accessFault, pageFault, guestPageFault, entryFault, firstNeed, secondNeed, entryNeed};
+use bits::Field;
+use bits::has;
+use bits::select;
+
+// A guest physical address: what the first stage yields. Only the second stage, also when off, makes a machine address of it.
+pub struct Guest(pub u64);
+
+pub struct Machine(pub u64);
+
+// The kinds of access.
+pub enum Kind {
+    Fetch,
+    Load,
+    Store,
+}
+
+// What an access asks of a leaf.
+pub struct Need {
+    pub kind: Kind,
+    pub user: bool,
+    pub sum: bool,
+    pub mxr: bool,
+}
+
+// What an entry is at its level.
+pub enum Verdict {
+    Pointer(u64),
+    Leaf(u64),
+    Bad,
+}
+
+// A stage's tables: the number of their levels, 0 for Bare, and the root's PPN.
+pub struct Root {
+    pub levels: u64,
+    pub ppn: u64,
+}
+
+// An access, with what the walk takes from the hart: the effective V, whether the effective mode is a user mode, SUM, each stage's MXR
+// and tables.
+pub struct Access {
+    pub kind: Kind,
+    pub address: u64,
+    pub width: u64,
+    pub v: bool,
+    pub user: bool,
+    pub sum: bool,
+    pub mxr: bool,
+    pub mmxr: bool,
+    pub first: Root,
+    pub second: Root,
+}
+
+pub struct Fault {
+    pub cause: u64,
+    pub value: u64,
+    pub second: u64,
+    pub word: u64,
+    pub flag: bool,
+}
+
+// The bits of an entry.
+const V: u64 = 0;
+
+const R: u64 = 1;
+
+const W: u64 = 2;
+
+const X: u64 = 3;
+
+const U: u64 = 4;
+
+const A: u64 = 6;
+
+const D: u64 = 7;
+
+impl Kind {
+    // The cause that is this kind's own.
+    fn cause(self, fetch: u64, load: u64, store: u64) -> u64
+        ensures { λ r. ⌜ r ≡ by self fetch load store ⌝ }
+    {
+        match self {
+            Kind::Fetch => fetch,
+            Kind::Load => load,
+            Kind::Store => store,
+        }
+    }
+
+    // The test that is this kind's own.
+    pub fn test(self, fetch: bool, load: bool, store: bool) -> bool
+        ensures { λ r. ⌜ r ≡ by self fetch load store ⌝ }
+    {
+        match self {
+            Kind::Fetch => fetch,
+            Kind::Load => load,
+            Kind::Store => store,
+        }
+    }
+}
+
+fn is_pointer(e: u64) -> bool
+    ensures { λ r. ⌜ r ≡ pointer e ⌝ }
+{
+    !(has(R, e) | has(X, e))
+}
+
+impl Need {
+    // U and SUM.
+    fn reaches(self, e: u64) -> bool
+        ensures { λ r. ⌜ r ≡ reached self e ⌝ }
+    {
+        let kind = self.kind;
+        let sum = self.sum;
+        let u = has(U, e);
+        if self.user {
+            return u;
+        }
+        !u | kind.test(false, sum, sum)
+    }
+
+    // R, W, X and MXR.
+    fn grants(self, e: u64) -> bool
+        ensures { λ r. ⌜ r ≡ granted self e ⌝ }
+    {
+        let kind = self.kind;
+        let x = has(X, e);
+        kind.test(x, has(R, e) | (x & self.mxr), has(W, e))
+    }
+
+    // Whether a rule finds fault with an entry at a level.
+    fn rejects(self, level: u64, e: u64) -> bool
+        requires { ⌜ level < 5 ⌝ }
+        ensures { λ r. ⌜ r ≡ faulty self level e ⌝ }
+    {
+        let kind = self.kind;
+        let p = is_pointer(e);
+        let high = Field { low: 54, width: 10 };
+        let low = Field {
+            low: 10,
+            width: 9 * level,
+        };
+        !has(V, e)
+            | (has(W, e) & !has(R, e))
+            | (high.get(e) != 0)
+            | (p & (has(A, e) | has(D, e) | has(U, e)))
+            | (p & (level == 0))
+            | (!p & (low.get(e) != 0))
+            | (!p & !has(A, e))
+            | (!p & kind.test(false, false, !has(D, e)))
+            | (!p & !(self.reaches(e) & self.grants(e)))
+    }
+
+    // What an entry is at its level, and where it leads an address.
+    pub fn judge(self, level: u64, address: u64, e: u64) -> Verdict
+        requires { ⌜ level < 5 ⌝ }
+        ensures { λ r. ⌜ r ≡ judged self level address e ⌝ }
+    {
+        if self.rejects(level, e) {
+            return Verdict::Bad;
+        }
+        let ppn = Field { low: 10, width: 44 };
+        let target = ppn.get(e) * 4096;
+        if is_pointer(e) {
+            return Verdict::Pointer(target);
+        }
+        let offset = Field {
+            low: 0,
+            width: 12 + 9 * level,
+        };
+        Verdict::Leaf(target + offset.get(address))
+    }
+}
+
+// The index at a level: nine bits of an address.
+pub fn index(level: u64, address: u64) -> u64
+    requires { ⌜ level < 5 ⌝ }
+    ensures { λ r. ⌜ (r ≡ get (slots 9 level) address) × (r < 512) ⌝ }
+{
+    let nine = Field {
+        low: 12 + 9 * level,
+        width: 9,
+    };
+    nine.get(address)
+}
+
+// The index at the second stage's root, a table of 16 KiB: eleven bits.
+pub fn root_index(levels: u64, address: u64) -> u64
+    requires { ⌜ (0 < levels) × (levels ≤ 5) ⌝ }
+    ensures { λ r. ⌜ (r ≡ index Stage.second levels (levels - 1) address) × (r < 2048) ⌝ }
+{
+    let eleven = Field {
+        low: 12 + 9 * (levels - 1),
+        width: 11,
+    };
+    eleven.get(address)
+}
+
+// The first stage's test of an address's high bits.
+pub fn is_extended(levels: u64, address: u64) -> bool
+    requires { ⌜ levels ≤ 5 ⌝ }
+    ensures { λ r. ⌜ r ≡ wellFormed Stage.first levels address ⌝ }
+{
+    let low = 12 + 9 * levels;
+    let high = Field {
+        low: low,
+        width: 64 - low,
+    };
+    let all = Field {
+        low: low,
+        width: 64 - low,
+    };
+    high.get(address) == select(has(low - 1, address), all.get(18446744073709551615), 0)
+}
+
+// The second stage's test of an address's high bits.
+pub fn is_small(levels: u64, address: u64) -> bool
+    requires { ⌜ levels ≤ 5 ⌝ }
+    ensures { λ r. ⌜ r ≡ wellFormed Stage.second levels address ⌝ }
+{
+    let low = 14 + 9 * levels;
+    let high = Field {
+        low: low,
+        width: 64 - low,
+    };
+    high.get(address) == 0
+}
+
+impl Access {
+    // The fault whose cause is the access's own of three.
+    fn raise(self, fetch: u64, load: u64, store: u64, second: u64) -> Fault
+        ensures { λ r. ⌜ r ≡ raised self (by (self .kind) fetch load store) second 0 ⌝ }
+    {
+        let kind = self.kind;
+        Fault {
+            cause: kind.cause(fetch, load, store),
+            value: self.address,
+            second: second,
+            word: 0,
+            flag: self.v,
+        }
+    }
+
+    // A misaligned load or store.
+    pub fn misalignment(self) -> Fault
+        ensures { λ r. ⌜ r ≡ misalignment self ⌝ }
+    {
+        self.raise(0, 4, 6, 0)
+    }
+
+    pub fn access_fault(self) -> Fault
+        ensures { λ r. ⌜ r ≡ accessFault self ⌝ }
+    {
+        self.raise(1, 5, 7, 0)
+    }
+
+    pub fn page_fault(self) -> Fault
+        ensures { λ r. ⌜ r ≡ pageFault self ⌝ }
+    {
+        self.raise(12, 13, 15, 0)
+    }
+
+    pub fn guest_page_fault(self, guest: Guest) -> Fault
+        ensures { λ r. ⌜ r ≡ guestPageFault self guest ⌝ }
+    {
+        self.raise(20, 21, 23, guest.0 / 4)
+    }
+
+    // The fault of a guest entry, always a load's.
+    pub fn entry_fault(self, guest: Guest) -> Fault
+        ensures { λ r. ⌜ r ≡ entryFault self guest ⌝ }
+    {
+        Fault {
+            cause: 21,
+            value: self.address,
+            second: guest.0 / 4,
+            word: 12288,
+            flag: self.v,
+        }
+    }
+
+    // What the access asks of the first stage.
+    pub fn first_need(self) -> Need
+        ensures { λ r. ⌜ r ≡ firstNeed self ⌝ }
+    {
+        let kind = self.kind;
+        Need {
+            kind: kind,
+            user: self.user,
+            sum: self.sum,
+            mxr: self.mxr,
+        }
+    }
+
+    // What the access asks of the second stage.
+    pub fn second_need(self) -> Need
+        ensures { λ r. ⌜ r ≡ secondNeed self ⌝ }
+    {
+        let kind = self.kind;
+        Need {
+            kind: kind,
+            user: true,
+            sum: false,
+            mxr: self.mmxr,
+        }
+    }
+}
+
+// What the read of a guest entry asks of the second stage.
+pub fn entry_need() -> Need
+    ensures { λ r. ⌜ r ≡ entryNeed ⌝ }
+{
+    Need {
+        kind: Kind::Load,
+        user: true,
+        sum: false,
+        mxr: false,
+    }
+}

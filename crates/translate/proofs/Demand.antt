@@ -1,0 +1,146 @@
+-- Demand 3 of every translation, for every hart, image and access: refused, misaligned or walked. Assumes nothing.
+use mathlib.Core.Path.{_≡_, refl, sym, ap, _∙_}
+use mathlib.Core.Bool.{Bool, true, false, not}
+use mathlib.Core.List.{List, [], _∷_, _++_}
+use Prim.Native.Nat.{ℕ, suc, _+_, _-_, _*_, _<_, _≤_}
+use native.Mathlib.Nat.{mul-le-mul, zero-mul}
+use native.Mathlib.Omega.{arith}
+use lib.ListN.{length, take, drop}
+use lib.Seq.{take-append-seam, drop-append-seam}
+use Rattle.bits.specs.Field.{pick}
+use Rattle.bits.proofs.Bools.{clash, pick-both}
+use Rattle.hart.specs.declared.state.Hart.{Hart}
+use Rattle.hart.specs.Hart.{passes}
+use Rattle.image.specs.Image.{unfit}
+use Rattle.rules.specs.declared.Access.{Access}
+use Rattle.rules.specs.declared.Kind.{Kind}
+use Rattle.rules.specs.declared.Machine.{Machine}
+use Rattle.rules.specs.Faults.{misalignment, secondNeed, entryNeed}
+use Rattle.walk.specs.declared.Read.{Read}
+use Rattle.walk.specs.Tree.{Walk, Ran, run}
+use Rattle.walk.specs.Stages.{Outcome, yields, faults, look, walkOf}
+use Rattle.walk.specs.Listed.{places, unused, Agree}
+use Rattle.walk.specs.Through.{EndsThrough}
+use Rattle.walk.proofs.Bounds.{at-most}
+use Rattle.walk.proofs.Images.{same-walk}
+use Rattle.walk.proofs.Guarded.{guest-entry, answer-page}
+use Rattle.translate.specs.declared.Answer.{Answer}
+use Rattle.translate.specs.declared.Translated.{Translated}
+use Rattle.translate.specs.Effective.{accessOf}
+use Rattle.translate.specs.Translated.{unheard, misaligned, answer, unwalked, walkedTo, translated}
+use Rattle.translate.proofs.Accesses.{tables-of}
+
+-- the items listed: the places up to the count
+abbrev pub listed : Translated → List Read
+listed t = take (t .count) (t .reads)
+
+listed-walk : (h : Hart) (r : Ran (Outcome Machine)) → listed (walkedTo h r) ≡ r .reads
+listed-walk h r = take-append-seam (r .reads) (unused (places - length (r .reads)))
+
+not-empty : {P : Type 0} (earlier : List Read) (x : Read) (later : List Read) → _≡_ {A = List Read} [] (earlier ++ (x ∷ later)) → P
+not-empty [] x later e = clash (cc)
+not-empty (y ∷ ys) x later e = clash (cc)
+
+address-yielded : (o : Outcome Machine) (m : Machine) → answer o ≡ Answer.Address m → o ≡ yields m
+address-yielded (yields x) m e = let q : x ≡ m = cc in ap yields q
+address-yielded (faults f) m e = clash (cc)
+
+module _ (h : Hart) (base : ℕ) (bytes : List ℕ) (kind : Kind) (address width : ℕ) where
+  abbrev a : Access
+  a = accessOf h kind address width
+
+  abbrev ran : Ran (Outcome Machine)
+  ran = run (look base bytes) (walkOf base (length bytes) a)
+
+  abbrev t : Translated
+  t = translated h base bytes kind address width
+
+  -- the answers that no walk gives
+  data AtOnce : Answer → Type 0 where
+    refused : (n : ℕ) → AtOnce (Answer.Refused n)
+    misaligned-by : AtOnce (Answer.Fault (misalignment a))
+
+  -- what holds of these and of the walk holds of every translation
+  each : (P : Translated → Type 0) → ((x : Answer) → AtOnce x → P (unwalked h x)) → P (walkedTo h ran) → P t
+  unfolding translated
+  each P u w =
+      pick-both P (not (passes h)) _ _ (λ e. u (Answer.Refused 2) (refused 2))
+      (λ e. pick-both P (unfit base (length bytes)) _ _ (λ e. u (Answer.Refused 1) (refused 1))
+      (λ e. pick-both P (unheard kind address width) _ _ (λ e. u (Answer.Refused 3) (refused 3))
+      (λ e. pick-both P (misaligned kind address width) _ _ (λ e. u (Answer.Fault (misalignment a)) misaligned-by) (λ e. w))))
+
+  -- ---- answer and list are those of the walk
+
+  pub is-walk : passes h ≡ true → unfit base (length bytes) ≡ false → unheard kind address width ≡ false → misaligned kind address width ≡ false → t ≡ walkedTo h ran
+  unfolding translated
+  is-walk p q r s = rw (p, q, r, s)
+
+  -- the hart is handed back as it was
+  pub same-hart : t .hart ≡ h
+  same-hart = each (λ (x : Translated). x .hart ≡ h) (λ x e. refl) refl
+
+  -- n first-stage levels over m second-stage levels: at most (n + 1) (m + 1) - 1 reads; a stage that is off has none
+  pub count-bound : t .count ≤ a .first .levels * suc (a .second .levels) + a .second .levels
+  count-bound = each (λ (x : Translated). x .count ≤ a .first .levels * suc (a .second .levels) + a .second .levels) (λ x e. omega arith) (at-most a base (length bytes) (look base bytes))
+
+  pub both-stages : t .count ≤ 15
+  both-stages =
+      let k = tables-of h kind address width in
+      let m : a .first .levels * suc (a .second .levels) ≤ 3 * 4 = mul-le-mul {m₂ = 4} (k .1) (omega (arith, k .2)) in
+      omega (arith, count-bound, k .2)
+
+  pub first-alone : a .second .levels ≡ 0 → t .count ≤ 3
+  first-alone e = let k = tables-of h kind address width in omega (arith, rw e at count-bound, k .1)
+
+  pub second-alone : a .first .levels ≡ 0 → t .count ≤ 3
+  second-alone e = let k = tables-of h kind address width in omega (arith, rw (e, zero-mul) at count-bound, k .2)
+
+  pub no-stage : a .first .levels ≡ 0 → a .second .levels ≡ 0 → t .count ≡ 0
+  no-stage e f = omega (arith, rw (e, f) at count-bound)
+
+  -- the places beyond the count are zero
+  pub beyond-count : drop (t .count) (t .reads) ≡ unused (places - t .count)
+  beyond-count = each (λ (x : Translated). drop (x .count) (x .reads) ≡ unused (places - x .count)) (λ x e. refl) (drop-append-seam (ran .reads) (unused (places - length (ran .reads))))
+
+  -- ---- with the second stage on
+
+  module _ (on : 0 < a .second .levels) where
+    -- each guest entry listed lies on a page that a second-stage walk standing directly before it let through with R and U
+    pub guest-entries : (earlier : List Read) (x : Read) (later : List Read) → listed t ≡ earlier ++ (x ∷ later) → x .stage ≡ 1 → EndsThrough (a .second) entryNeed earlier (x .address)
+    guest-entries earlier x later e one =
+        each (λ (r : Translated). listed r ≡ earlier ++ (x ∷ later) → EndsThrough (a .second) entryNeed earlier (x .address)) (λ y u q. not-empty earlier x later q)
+        (λ q. guest-entry (look base bytes) base (length bytes) a on earlier x later (sym (listed-walk h ran) ∙ q) one) e
+
+    -- an address answered lies on a page that the second-stage walk ending the list let through with the access's own right and U
+    pub answer-let-through : (m : Machine) → t .answer ≡ Answer.Address m → EndsThrough (a .second) (secondNeed a) (listed t) m
+    answer-let-through m e =
+        each (λ (r : Translated). r .answer ≡ Answer.Address m → EndsThrough (a .second) (secondNeed a) (listed r) m) at-once
+        (λ q. rw (listed-walk h ran) (answer-page (look base bytes) base (length bytes) a on m (address-yielded (ran .end) m q))) e
+      where
+        at-once : (x : Answer) → AtOnce x → x ≡ Answer.Address m → EndsThrough (a .second) (secondNeed a) (listed (unwalked h x)) m
+        at-once x (refused n) q = clash (cc)
+        at-once x misaligned-by q = clash (cc)
+
+-- two images of one base and length that agree on the entries listed for one of them give the same answer and list
+pub same-image : (h : Hart) (base : ℕ) (s s′ : List ℕ) (kind : Kind) (address width : ℕ) → length s ≡ length s′
+    → Agree (look base s) (look base s′) (listed (translated h base s kind address width)) → translated h base s′ kind address width ≡ translated h base s kind address width
+unfolding translated
+same-image h base s s′ kind address width e = rw (← e) (go (not (passes h)) (unfit base (length s)) (unheard kind address width) (misaligned kind address width))
+  where
+    w : Walk (Outcome Machine)
+    w = walkOf base (length s) (accessOf h kind address width)
+
+    out : Bool → Bool → Bool → Bool → Ran (Outcome Machine) → Translated
+    out b₁ b₂ b₃ b₄ r =
+        pick b₁ (unwalked h (Answer.Refused 2))
+        (pick b₂ (unwalked h (Answer.Refused 1))
+        (pick b₃ (unwalked h (Answer.Refused 3))
+        (pick b₄ (unwalked h (Answer.Fault (misalignment (accessOf h kind address width)))) (walkedTo h r))))
+
+    go : (b₁ b₂ b₃ b₄ : Bool) → Agree (look base s) (look base s′) (listed (out b₁ b₂ b₃ b₄ (run (look base s) w)))
+        → out b₁ b₂ b₃ b₄ (run (look base s′) w) ≡ out b₁ b₂ b₃ b₄ (run (look base s) w)
+    go true b₂ b₃ b₄ g = refl
+    go false true b₃ b₄ g = refl
+    go false false true b₄ g = refl
+    go false false false true g = refl
+    go false false false false g = ap (walkedTo h) (same-walk base s s′ e w (rw (listed-walk h (run (look base s) w)) at g))

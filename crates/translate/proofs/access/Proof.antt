@@ -1,0 +1,21 @@
+use mathlib.Core.Path.{ap, _∙_}
+use Rattle.translate.specs.Effective.{inMode, accessOf}
+use Rattle.translate.specs.declared.Mode.{Mode}
+use borrow.Author.Needs.{needs}
+use Rattle.translate.proofs.access.Statement.{statement}
+use Rattle.translate.proofs.access.Tie as tie
+
+effective-mode-requires : tie.Need-effective-mode-requires
+effective-mode-requires c κs = search needs
+
+in-mode-requires : tie.Need-in-mode-requires
+in-mode-requires c κs = search needs
+
+returns : tie.Need-returns
+unfolding accessOf
+returns c =
+    let a = c .before .before .args in
+    c .in-mode .ensures ∙ ap (λ (m : Mode). inMode (a .h) m (a .kind) (a .address) (a .width)) (c .before .effective-mode .ensures)
+
+pub access-spec : {M : Type 1} → statement M
+access-spec = tie.close (tie.spec effective-mode-requires in-mode-requires returns)

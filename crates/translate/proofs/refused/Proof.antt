@@ -1,0 +1,14 @@
+use Rattle.translate.specs.Translated.{unheard}
+use borrow.Author.Needs.{needs}
+use Rattle.translate.proofs.refused.Statement.{statement}
+use Rattle.translate.proofs.refused.Tie as tie
+
+test-requires : tie.Need-test-requires
+test-requires c κs = search needs
+
+returns : tie.Need-returns
+unfolding unheard
+returns c = cc
+
+pub refused-spec : {M : Type 1} → statement M
+refused-spec = tie.close (tie.spec test-requires returns)

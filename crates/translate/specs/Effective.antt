@@ -1,0 +1,65 @@
+-- What an access takes from the hart: its effective mode, the stages that are on, and the bits that count.
+use mathlib.Core.Bool.{Bool, true, false, _&&_, _||_, not}
+use Prim.Native.Nat.{ℕ}
+use lib.Dec.{eqb}
+use Rattle.bits.specs.Field.{pick, get}
+use Rattle.registers.specs.Fields.{MPP, MPRV, MPV, SUM, MXR, MODE, PPN}
+use Rattle.registers.specs.Places.{satp, vsatp, hgatp, mstatus, vsstatus}
+use Rattle.privilege.specs.Mode.{isM, isSet}
+use Rattle.hart.specs.declared.state.Hart.{Hart}
+use Rattle.hart.specs.Hart.{reg, context}
+use Rattle.rules.specs.declared.Access.{Access}
+use Rattle.rules.specs.declared.Kind.{Kind}
+use Rattle.rules.specs.declared.Root.{Root}
+use Rattle.rules.specs.Kind.{by}
+use Rattle.translate.specs.declared.Mode.{Mode}
+
+-- "in M with MPRV=1 a load or store uses MPP"
+abbrev pub lent : Hart → Kind → Bool
+lent h kind = isM (context h) && isSet MPRV (reg h mstatus) && by kind false true true
+
+-- "Effective mode: the hart's, but in M with MPRV=1 a load or store uses MPP, and MPV if MPP isn't 3."
+abbrev pub effective : Hart → Kind → Mode
+effective h kind =
+    pick (lent h kind)
+    (record { v = not (eqb (get MPP (reg h mstatus)) 3) && isSet MPV (reg h mstatus); privilege = get MPP (reg h mstatus) })
+    (record { v = eqb (h .v) 1; privilege = h .privilege })
+
+-- MODE 8 is Sv39, and Sv39x4 in hgatp, of three levels; Bare has none
+abbrev pub levels : ℕ → ℕ
+levels x = pick (eqb (get MODE x) 8) 3 0
+
+abbrev pub root : ℕ → Root
+root x = record { levels = levels x; ppn = get PPN x }
+
+abbrev pub off : Root
+off = record { levels = 0; ppn = 0 }
+
+-- "M, or stages in Bare, pass the address on. V=0 walks satp alone; V=1 walks vsatp, then hgatp."
+unfoldable pub firstRoot : Hart → Mode → Root
+firstRoot h m = pick (m .v) (root (reg h vsatp)) (pick (eqb (m .privilege) 3) off (root (reg h satp)))
+
+unfoldable pub secondRoot : Hart → Mode → Root
+secondRoot h m = pick (m .v) (root (reg h hgatp)) off
+
+-- "SUM and MXR are vsstatus's when V=1, and mstatus.MXR counts too."
+abbrev pub ownStatus : Hart → Mode → ℕ
+ownStatus h m = pick (m .v) (reg h vsstatus) (reg h mstatus)
+
+abbrev pub inMode : Hart → Mode → Kind → ℕ → ℕ → Access
+inMode h m kind address width =
+    record {
+      kind = kind;
+      address = address;
+      width = width;
+      v = m .v;
+      user = eqb (m .privilege) 0;
+      sum = isSet SUM (ownStatus h m);
+      mxr = isSet MXR (ownStatus h m) || isSet MXR (reg h mstatus);
+      mmxr = isSet MXR (reg h mstatus);
+      first = firstRoot h m;
+      second = secondRoot h m;
+    }
+
+unfoldable pub accessOf : Hart → Kind → ℕ → ℕ → Access
+accessOf h kind = inMode h (effective h kind) kind

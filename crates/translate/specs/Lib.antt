@@ -1,0 +1,2 @@
+pub mod Effective
+pub mod Translated

@@ -1,0 +1,198 @@
+// The translation of an access on a hart: refusals, misalignment, the effective mode and the walk.
+ghost use mathlib.Core.Path.{_≡_};
+ghost use Prim.Native.Nat.{_%_, _<_};
+ghost use Rattle.walk.specs.Place.{outcome};
+ghost use Rattle.translate.specs.Effective.{effective, root, off, firstRoot, secondRoot, inMode, accessOf};
+ghost use Rattle.translate.specs.Translated.{unheard, misaligned, answer, unwalked, translated};
+use hart::state::Hart;
+use registers::fields;
+use registers::places;
+use rules::Access;
+use rules::Fault;
+use rules::Kind;
+use rules::Machine;
+use rules::Root;
+use walk::Reached;
+use walk::Read;
+
+// The mode that an access is made in.
+pub struct Mode {
+    pub v: bool,
+    pub privilege: u64,
+}
+
+pub enum Answer {
+    Address(Machine),
+    Refused(u64),
+    Fault(Fault),
+}
+
+pub struct Translated {
+    pub hart: Hart,
+    pub answer: Answer,
+    pub reads: [Read; 15],
+    pub count: usize,
+}
+
+fn effective_mode(h: Hart, kind: Kind) -> Mode
+    ensures { λ r. ⌜ r ≡ effective h kind ⌝ }
+{
+    let status = h.regs[places::MSTATUS];
+    let data = kind.test(false, true, true);
+    if h.context().is_m() & (fields::MPRV.get(status) == 1) & data {
+        let mpp = fields::MPP.get(status);
+        return Mode {
+            v: !(mpp == 3) & (fields::MPV.get(status) == 1),
+            privilege: mpp,
+        };
+    }
+    Mode {
+        v: h.v == 1,
+        privilege: h.privilege,
+    }
+}
+
+// The tables of satp, vsatp or hgatp.
+fn tables(x: u64) -> Root
+    ensures { λ r. ⌜ r ≡ root x ⌝ }
+{
+    Root {
+        levels: bits::select(fields::MODE.get(x) == 8, 3, 0),
+        ppn: fields::PPN.get(x),
+    }
+}
+
+fn bare() -> Root
+    ensures { λ r. ⌜ r ≡ off ⌝ }
+{
+    Root { levels: 0, ppn: 0 }
+}
+
+fn first(h: Hart, m: Mode) -> Root
+    ensures { λ r. ⌜ r ≡ firstRoot h m ⌝ }
+{
+    if m.v {
+        return tables(h.regs[places::VSATP]);
+    }
+    if m.privilege == 3 {
+        return bare();
+    }
+    tables(h.regs[places::SATP])
+}
+
+fn second(h: Hart, m: Mode) -> Root
+    ensures { λ r. ⌜ r ≡ secondRoot h m ⌝ }
+{
+    if m.v {
+        return tables(h.regs[places::HGATP]);
+    }
+    bare()
+}
+
+// The access in a mode.
+fn in_mode(h: Hart, m: Mode, kind: Kind, address: u64, width: u64) -> Access
+    ensures { λ r. ⌜ r ≡ inMode h m kind address width ⌝ }
+{
+    let status = h.regs[places::MSTATUS];
+    let own = bits::select(m.v, h.regs[places::VSSTATUS], status);
+    let mmxr = fields::MXR.get(status) == 1;
+    Access {
+        kind: kind,
+        address: address,
+        width: width,
+        v: m.v,
+        user: m.privilege == 0,
+        sum: fields::SUM.get(own) == 1,
+        mxr: (fields::MXR.get(own) == 1) | mmxr,
+        mmxr: mmxr,
+        first: first(h, m),
+        second: second(h, m),
+    }
+}
+
+fn access(h: Hart, kind: Kind, address: u64, width: u64) -> Access
+    ensures { λ r. ⌜ r ≡ accessOf h kind address width ⌝ }
+{
+    in_mode(h, effective_mode(h, kind), kind, address, width)
+}
+
+// Whether an access is refused as 3.
+fn refused(kind: Kind, address: u64, width: u64) -> bool
+    ensures { λ r. ⌜ r ≡ unheard kind address width ⌝ }
+{
+    let known = (width == 1) | (width == 2) | (width == 4) | (width == 8);
+    let fetch = !(width == 4) | !(address % 4 == 0);
+    !known | kind.test(fetch, false, false)
+}
+
+// Whether a load or store is misaligned.
+fn is_misaligned(kind: Kind, address: u64, width: u64) -> bool
+    requires { ⌜ 0 < width ⌝ }
+    ensures { λ r. ⌜ r ≡ misaligned kind address width ⌝ }
+{
+    let t = !(address % width == 0);
+    kind.test(false, t, t)
+}
+
+// What a walk came to, as the answer.
+fn answered(r: Reached) -> Answer
+    ensures { λ x. ⌜ x ≡ answer (outcome r) ⌝ }
+{
+    match r {
+        Reached::At(m) => Answer::Address(m),
+        Reached::Failed(f) => Answer::Fault(f),
+    }
+}
+
+// An answer with the list empty.
+fn at_once(h: Hart, answer: Answer) -> Translated
+    ensures { λ r. ⌜ r ≡ unwalked h answer ⌝ }
+{
+    let reads = [Read {
+        stage: 0,
+        level: 0,
+        address: Machine(0),
+        value: 0,
+    }; 15];
+    Translated {
+        hart: h,
+        answer: answer,
+        reads: reads,
+        count: 0,
+    }
+}
+
+// The translation of an access: the hart as it was, the answer, and the entries read for it.
+pub fn translate(
+    h: Hart,
+    base: u64,
+    bytes: &[u8],
+    kind: Kind,
+    address: u64,
+    width: u64,
+) -> Translated
+    ensures { λ r. ⌜ r ≡ translated h base (now (bytes .entry)) kind address width ⌝ }
+{
+    if !h.passes() {
+        return at_once(h, Answer::Refused(2));
+    }
+    if image::refused(base, bytes.len() as u64) {
+        return at_once(h, Answer::Refused(1));
+    }
+    if refused(kind, address, width) {
+        return at_once(h, Answer::Refused(3));
+    }
+    let a = access(h, kind, address, width);
+    if is_misaligned(kind, address, width) {
+        return at_once(h, Answer::Fault(a.misalignment()));
+    }
+    let w = walk::walk(base, bytes, a);
+    let reads = w.reads;
+    let reached = w.reached;
+    Translated {
+        hart: h,
+        answer: answered(reached),
+        reads: reads,
+        count: w.count,
+    }
+}

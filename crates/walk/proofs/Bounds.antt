@@ -1,0 +1,107 @@
+-- How many entries a walk reads: bounds compose. Assumes nothing.
+use mathlib.Core.Path.{_≡_}
+use mathlib.Core.Bool.{Bool, true, false}
+use Prim.Native.Nat.{ℕ, zero, suc, _+_, _-_, _*_, _≤_, _<_, zero-le, suc-le-suc}
+use native.Mathlib.Nat.{add-comm, suc-add, zero-mul, suc-mul, add-zero, mul-one}
+use native.Mathlib.Omega.{arith}
+use lib.ListN.{length}
+use Rattle.bits.specs.Field.{pick}
+use Rattle.image.specs.declared.Entry.{Entry}
+use Rattle.image.specs.declared.Entry.the-variants.{Value, Outside}
+use Rattle.rules.specs.declared.Access.{Access}
+use Rattle.rules.specs.declared.Fault.{Fault}
+use Rattle.rules.specs.declared.Guest.{Guest}
+use Rattle.rules.specs.declared.Machine.{Machine}
+use Rattle.rules.specs.declared.Need.{Need}
+use Rattle.rules.specs.declared.Verdict.{Verdict}
+use Rattle.rules.specs.declared.Verdict.the-variants.{Pointer, Leaf, Bad}
+use Rattle.rules.specs.Address.{wellFormed}
+use Rattle.rules.specs.Entry.{judged}
+use Rattle.rules.specs.Faults.{guestPageFault, secondNeed}
+use Rattle.walk.specs.Tree.{Walk, done, ask, bind, item, listed, found, run}
+use Rattle.walk.specs.Stages.{Outcome, yields, faults, Translation, _then_, follow, inspect, down, begin, translation, second-of, first-of, last, final, walkOf}
+
+-- a walk asks at most n times on any way
+abbrev pub Within : {A : Type 0} → Walk A → ℕ → Type 0
+Within (done a) n = Unit {0}
+Within (ask s l m outside k) zero = ⊥
+Within (ask s l m outside k) (suc n) = Within outside (suc n) × ((v : ℕ) → Within (k v) n)
+
+pub within-run : {A : Type 0} (look : Machine → Entry) (w : Walk A) (n : ℕ) → Within w n → length (run look w .reads) ≤ n
+unfolding run
+within-run look (done a) n h = zero-le
+within-run look (ask s l m outside k) zero h = absurd h
+within-run {A} look (ask s l m outside k) (suc n) h = go (look m) (within-run look outside (suc n) (h .0)) (λ v. within-run look (k v) n (h .1 v))
+  where
+    go : (e : Entry) → length (run look outside .reads) ≤ suc n → ((v : ℕ) → length (run look (k v) .reads) ≤ n)
+        → length (found e (run look outside) (λ v. listed (item s l m v) (run look (k v))) .reads) ≤ suc n
+    go Outside io ik = io
+    go (Value v) io ik = suc-le-suc (ik v)
+
+-- one question is asked, and what follows asks one less
+pub within-ask : {A : Type 0} (s l : ℕ) (m : Machine) (outside : Walk A) (k : ℕ → Walk A) (n : ℕ) → Within (ask s l m outside k) n → (0 < n) × ((v : ℕ) → Within (k v) (n - 1))
+within-ask s l m outside k zero h = absurd h
+within-ask s l m outside k (suc n) h = let e : suc n - 1 ≡ n = omega arith in (omega arith, rw e (h .1))
+
+pub within-more : {A : Type 0} (w : Walk A) (n j : ℕ) → Within w n → Within w (n + j)
+within-more (done a) n j h = tt
+within-more (ask s l m outside k) zero j h = absurd h
+within-more (ask s l m outside k) (suc n) j h = rw suc-add (rw suc-add at (within-more outside (suc n) j (h .0)), λ v. within-more (k v) n j (h .1 v))
+
+pub within-then : {A B : Type 0} (w : Walk (Outcome A)) (f : A → Walk (Outcome B)) (n j : ℕ) → Within w n → ((a : A) → Within (f a) j) → Within (w then f) (n + j)
+unfolding bind
+within-then (done (yields a)) f n j h g = rw (add-comm n j) (within-more (f a) j n (g a))
+within-then (done (faults x)) f n j h g = tt
+within-then (ask s l m outside k) f zero j h g = absurd h
+within-then (ask s l m outside k) f (suc n) j h g = rw suc-add (rw suc-add at (within-then outside f (suc n) j (h .0) g), λ v. within-then (k v) f n j (h .1 v) g)
+
+-- ---- a stage of either kind, whose entries' own addresses take at most k reads each
+
+module _ {A : Type 0} (t : Translation A) (k : ℕ) (through : (x : ℕ) → Within (t .through x) k) where
+  within-follow : (d : Verdict) (next : ℕ → Walk (Outcome A)) (n : ℕ) → ((x : ℕ) → Within (next x) n) → Within (follow t d next) n
+  unfolding follow
+  within-follow Bad next n h = tt
+  within-follow (Leaf x) next n h = tt
+  within-follow (Pointer x) next n h = h x
+
+  within-visit : (level x : ℕ) (next : ℕ → Walk (Outcome A)) (n : ℕ) → ((x : ℕ) → Within (next x) n) → Within (t .through x then inspect t level next) (k + suc n)
+  unfolding inspect
+  within-visit level x next n h =
+      within-then (t .through x) (inspect t level next) k (suc n) (through x)
+      (λ m. (tt, λ e. within-follow (judged (t .need) level (t .address) e) next n h))
+
+  pub within-down : (level table : ℕ) → Within (down t level table) (suc level * suc k)
+  unfolding down
+  within-down zero table = let e : suc 0 * suc k ≡ k + 1 = rw suc-mul (omega (arith, zero-mul (suc k))) in rw e (within-visit zero _ _ 0 (λ x. tt))
+  within-down (suc l) table = let e : suc (suc l) * suc k ≡ k + suc (suc l * suc k) = rw suc-mul (omega arith) in rw e (within-visit (suc l) _ _ (suc l * suc k) (within-down l))
+
+  pub within-begin : (levels : ℕ) → Within (begin t levels) (levels * suc k)
+  unfolding begin
+  within-begin zero = tt
+  within-begin (suc l) = go (wellFormed (t .stage) (suc l) (t .address))
+    where
+      go : (b : Bool) → Within (pick b (down t l (t .tables .ppn * 4096)) (done (faults (t .fault)))) (suc l * suc k)
+      go true = within-down l (t .tables .ppn * 4096)
+      go false = tt
+
+-- ---- both stages
+
+module _ (a : Access) where
+  within-second : (n : Need) (f : Fault) (g : Guest) → Within (translation (second-of a n f g)) (a .second .levels)
+  within-second n f g = rw mul-one at (within-begin (second-of a n f g) 0 (λ x. tt) (a .second .levels))
+
+  within-final : (base len : ℕ) (g : Guest) → Within (final base len a g) (a .second .levels)
+  unfolding final
+  within-final base len g =
+      let w = translation (second-of a (secondNeed a) (guestPageFault a g) g) in
+      rw add-zero at (within-then w (λ m. done (last base len a m)) (a .second .levels) 0 (within-second _ _ g) (λ m. tt))
+
+  -- n levels over m read at most (n + 1) (m + 1) - 1 entries
+  pub within-walk : (base len : ℕ) → Within (walkOf base len a) (a .first .levels * suc (a .second .levels) + a .second .levels)
+  unfolding walkOf
+  within-walk base len =
+      within-then (translation (first-of a)) (final base len a) (a .first .levels * suc (a .second .levels)) (a .second .levels)
+      (within-begin (first-of a) (a .second .levels) (λ x. within-second _ _ _) (a .first .levels)) (within-final base len)
+
+  pub at-most : (base len : ℕ) (look : Machine → Entry) → length (run look (walkOf base len a) .reads) ≤ a .first .levels * suc (a .second .levels) + a .second .levels
+  at-most base len look = within-run look (walkOf base len a) _ (within-walk base len)

@@ -1,0 +1,328 @@
+-- What the second stage let through stands in the list: demand 3. Assumes nothing.
+use mathlib.Core.Path.{_≡_, refl, sym, ap, subst, _∙_}
+use mathlib.Core.Bool.{Bool, true, false, _&&_, _||_}
+use mathlib.Core.List.{List, [], _∷_, _++_, append-nil, append-assoc}
+use Prim.Native.Nat.{ℕ, zero, suc, _+_, _-_, _*_, _<_}
+use mathlib.Core.Logic.{_⊎_, inl, inr, ⊎-elim}
+use native.Mathlib.Omega.{arith}
+use Rattle.bits.specs.Field.{pick, get, has}
+use Rattle.bits.proofs.Bools.{clash, and-left, and-right}
+use Rattle.bits.proofs.Fields.{get-lt}
+use Rattle.image.specs.declared.Entry.{Entry}
+use Rattle.image.specs.declared.Entry.the-variants.{Value, Outside}
+use Rattle.image.specs.Image.{within}
+use Rattle.rules.specs.declared.Access.{Access}
+use Rattle.rules.specs.declared.Fault.{Fault}
+use Rattle.rules.specs.declared.Guest.{Guest}
+use Rattle.rules.specs.declared.Machine.{Machine}
+use Rattle.rules.specs.declared.Need.{Need}
+use Rattle.rules.specs.declared.Verdict.{Verdict}
+use Rattle.rules.specs.declared.Verdict.the-variants.{Pointer, Leaf, Bad}
+use Rattle.rules.specs.Address.{wellFormed, first, second}
+use Rattle.rules.specs.Entry.{R, X, pointer, reached, granted, target, offset, judged}
+use Rattle.rules.specs.Faults.{accessFault, entryFault, guestPageFault, firstNeed, secondNeed, entryNeed}
+use Rattle.rules.proofs.Verdicts.{is-pointer, is-leaf, leaf-right}
+use Rattle.walk.specs.declared.Read.{Read}
+use Rattle.walk.specs.Tree.{Walk, done, ask, bind, item, Ran, listed, found, run}
+use Rattle.walk.specs.Stages.{Outcome, yields, faults, onward, _then_, Translation, slot, follow, inspect, down, begin, translation, guest, machine, second-of, first-of, last, final, walkOf}
+use Rattle.walk.specs.Through.{secondItem, Descent, at-leaf, by-pointer, OnPage, LetThrough, EndsThrough}
+use Rattle.walk.proofs.Places.{begin-at}
+use Rattle.walk.proofs.Runs.{run-bind}
+
+never : {A : Type 0} {P : Type 0} (f : Fault) (x : A) → _≡_ {A = Outcome A} (faults f) (yields x) → P
+never f x e = clash (cc)
+
+-- ---- a second stage that yields an address has let it through
+
+module _ (look : Machine → Entry) (a : Access) (n : Need) (f : Fault) (g : Guest) where
+  abbrev t : Translation Machine
+  t = second-of a n f g
+
+  -- from a level down there is a leaf, and the address is what it yields
+  record Found (level table : ℕ) (xs : List Read) (m : Machine) : Type 0 where
+    leaf : Read
+    items : Descent (a .second) (g .0) level table xs leaf
+    yielded : judged n (leaf .level) (g .0) (leaf .value) ≡ Leaf (m .0)
+
+  abbrev Under : ℕ → ℕ → List Read → Machine → Type 0
+  Under zero table xs m = ⊥
+  Under (suc l) table xs m = Found l table xs m
+
+  deeper : (level table e : ℕ) (xs : List Read) (m : Machine) → pointer e ≡ true → Under level (target e) xs m → Found level table (secondItem (a .second) (g .0) level table e ∷ xs) m
+  deeper zero table e xs m p u = absurd u
+  deeper (suc l) table e xs m p u = record { leaf = u .leaf; items = by-pointer l table e xs (u .leaf) p (u .items); yielded = u .yielded }
+
+  visited : (level table : ℕ) (m : Machine) (next : ℕ → Walk (Outcome Machine))
+      → ((x : ℕ) → run look (next x) .end ≡ yields m → Under level x (run look (next x) .reads) m)
+      → run look (inspect t level next (machine (slot t level table))) .end ≡ yields m
+      → Found level table (run look (inspect t level next (machine (slot t level table))) .reads) m
+  unfolding run inspect follow
+  visited level table m next sub h = go (look (machine (slot t level table))) h
+    where
+      after : ℕ → Verdict → Ran (Outcome Machine)
+      after e d = listed (secondItem (a .second) (g .0) level table e) (run look (follow t d next))
+
+      judge : (e : ℕ) (d : Verdict) → judged n level (g .0) e ≡ d → after e d .end ≡ yields m → Found level table (after e d .reads) m
+      judge e Bad j q = never f m q
+      judge e (Leaf x) j q =
+          record { leaf = secondItem (a .second) (g .0) level table e; items = at-leaf level table e (is-leaf n level (g .0) e x j .leaf); yielded = cc }
+      judge e (Pointer x) j q =
+          let k = is-pointer n level (g .0) e x j in
+          deeper level table e (run look (next x) .reads) m (k .pointer) (subst (λ (y : ℕ). Under level y (run look (next x) .reads) m) (k .to) (sub x q))
+
+      go : (e : Entry) → found e (run look (done (faults (t .outside)))) (λ v. after v (judged n level (g .0) v)) .end ≡ yields m
+          → Found level table (found e (run look (done (faults (t .outside)))) (λ v. after v (judged n level (g .0) v)) .reads) m
+      go Outside q = never (t .outside) m q
+      go (Value v) q = judge v (judged n level (g .0) v) refl q
+
+  descended : (level table : ℕ) (m : Machine) → run look (down t level table) .end ≡ yields m → Found level table (run look (down t level table) .reads) m
+  unfolding run down bind
+  descended zero table m h = visited zero table m (λ x. done (faults f)) (λ x q. never f m q) h
+  descended (suc l) table m h = visited (suc l) table m (down t l) (λ x q. descended l x m q) h
+
+  on-page : (leaf : Read) (m : Machine) → m .0 ≡ target (leaf .value) + get (offset (leaf .level)) (g .0) → OnPage leaf m
+  on-page leaf m e = record { from = omega arith; to = omega (arith, get-lt (offset (leaf .level)) (g .0)) }
+
+  -- what a leaf that yields an address tells
+  from-found : n .user ≡ true → (m : Machine) (xs : List Read) → Found (a .second .levels - 1) (a .second .ppn * 4096) xs m → LetThrough (a .second) n xs m
+  from-found u m xs k =
+      let leaf = k .leaf in
+      let i = is-leaf n (leaf .level) (g .0) (leaf .value) (m .0) (k .yielded) in
+      let r = leaf-right n (leaf .level) (leaf .value) (i .good) (i .leaf) in
+      record {
+        guest = g .0;
+        leaf = leaf;
+        items = k .items;
+        passed = i .good;
+        user = rw u at (and-left (reached n (leaf .value)) (granted n (leaf .value)) r);
+        right = and-right (reached n (leaf .value)) (granted n (leaf .value)) r;
+        page = on-page leaf m (i .to);
+      }
+
+  -- the second stage, on, has let through what it yields
+  pub let-through : 0 < a .second .levels → n .user ≡ true → (m : Machine) → run look (translation (second-of a n f g)) .end ≡ yields m
+      → LetThrough (a .second) n (run look (translation (second-of a n f g)) .reads) m
+  unfolding run
+  let-through p u m h =
+      rw (begin-at t (a .second .levels) p) (go (wellFormed second (a .second .levels) (g .0)) (rw (begin-at t (a .second .levels) p) at h))
+    where
+      root : Walk (Outcome Machine)
+      root = down t (a .second .levels - 1) (a .second .ppn * 4096)
+
+      go : (b : Bool) → run look (pick b root (done (faults f))) .end ≡ yields m → LetThrough (a .second) n (run look (pick b root (done (faults f))) .reads) m
+      go true q = from-found u m (run look root .reads) (descended (a .second .levels - 1) (a .second .ppn * 4096) m q)
+      go false q = never f m q
+
+-- ---- the items of a second-stage walk are all of the second stage
+
+-- each question of a walk is of one stage
+abbrev Only : {A : Type 0} → ℕ → Walk A → Type 0
+Only s (done a) = Unit {0}
+Only s (ask s′ l m outside k) = (s′ ≡ s) × Only s outside × ((v : ℕ) → Only s (k v))
+
+-- each item of a list is
+abbrev All : ℕ → List Read → Type 0
+All s [] = Unit {0}
+All s (x ∷ xs) = (x .stage ≡ s) × All s xs
+
+only-run : {A : Type 0} (look : Machine → Entry) (s : ℕ) (w : Walk A) → Only s w → All s (run look w .reads)
+unfolding run
+only-run look s (done a) h = tt
+only-run {A} look s (ask s′ l m outside k) h = go (look m) (only-run look s outside (h .1)) (λ v. only-run look s (k v) (h .2 v))
+  where
+    go : (e : Entry) → All s (run look outside .reads) → ((v : ℕ) → All s (run look (k v) .reads))
+        → All s (found e (run look outside) (λ v. listed (item s′ l m v) (run look (k v))) .reads)
+    go Outside io ik = io
+    go (Value v) io ik = (h .0, ik v)
+
+all-append : (s : ℕ) (xs ys : List Read) → All s xs → All s ys → All s (xs ++ ys)
+all-append s [] ys h k = k
+all-append s (x ∷ xs) ys h k = (h .0, all-append s xs ys (h .1) k)
+
+module _ (a : Access) (n : Need) (f : Fault) (g : Guest) where
+  abbrev u : Translation Machine
+  u = second-of a n f g
+
+  only-follow : (d : Verdict) (next : ℕ → Walk (Outcome Machine)) → ((x : ℕ) → Only 2 (next x)) → Only 2 (follow u d next)
+  unfolding follow
+  only-follow Bad next h = tt
+  only-follow (Leaf x) next h = tt
+  only-follow (Pointer x) next h = h x
+
+  only-down : (level table : ℕ) → Only 2 (down u level table)
+  unfolding down bind inspect
+  only-down zero table = (refl, tt, λ e. only-follow (judged n zero (g .0) e) (λ x. done (faults f)) (λ x. tt))
+  only-down (suc l) table = (refl, tt, λ e. only-follow (judged n (suc l) (g .0) e) (down u l) (only-down l))
+
+  only-begin : (levels : ℕ) → Only 2 (begin u levels)
+  unfolding begin
+  only-begin zero = tt
+  only-begin (suc l) = go (wellFormed second (suc l) (g .0))
+    where
+      go : (b : Bool) → Only 2 (pick b (down u l (a .second .ppn * 4096)) (done (faults f)))
+      go true = only-down l (a .second .ppn * 4096)
+      go false = tt
+
+  only-second : (look : Machine → Entry) → All 2 (run look (translation (second-of a n f g)) .reads)
+  only-second look = only-run look 2 (translation (second-of a n f g)) (only-begin (a .second .levels))
+
+-- ---- directly before each first-stage item stands a second-stage walk that let it through
+
+data Guarded (a : Access) : List Read → Type 0 where
+  plain : (ws : List Read) → All 2 ws → Guarded a ws
+  before : (ws : List Read) (x : Read) (xs : List Read) → All 2 ws → LetThrough (a .second) entryNeed ws (x .address) → Guarded a xs → Guarded a (ws ++ (x ∷ xs))
+
+guarded-more : (a : Access) {xs : List Read} (ys : List Read) → Guarded a xs → All 2 ys → Guarded a (xs ++ ys)
+guarded-more a ys (plain ws h) k = plain (ws ++ ys) (all-append 2 ws ys h k)
+guarded-more a ys (before ws x xs h l r) k = rw (append-assoc ws (x ∷ xs) ys) (before ws x (xs ++ ys) h l (guarded-more a ys r k))
+
+module _ (look : Machine → Entry) (a : Access) (on : 0 < a .second .levels) where
+  guarded-visit : (level x : ℕ) (next : ℕ → Walk (Outcome Guest)) → ((y : ℕ) → Guarded a (run look (next y) .reads))
+      → Guarded a (run look (first-of a .through x then inspect (first-of a) level next) .reads)
+  unfolding run inspect follow
+  guarded-visit level x next sub = rw (run-bind look w (onward (inspect (first-of a) level next))) (go (run look w .end) refl)
+    where
+      w : Walk (Outcome Machine)
+      w = translation (second-of a entryNeed (entryFault a (guest x)) (guest x))
+
+      ws : List Read
+      ws = run look w .reads
+
+      second-only : All 2 ws
+      second-only = only-second a entryNeed (entryFault a (guest x)) (guest x) look
+
+      alone : Guarded a (ws ++ [])
+      alone = rw append-nil (plain ws second-only)
+
+      judge : (d : Verdict) → Guarded a (run look (follow (first-of a) d next) .reads)
+      judge Bad = plain [] tt
+      judge (Leaf y) = plain [] tt
+      judge (Pointer y) = sub y
+
+      entry : (m : Machine) → LetThrough (a .second) entryNeed ws m → (e : Entry)
+          → Guarded a (ws ++ found e (run look (done (faults (first-of a .outside)))) (λ v. listed (item 1 level m v) (run look (follow (first-of a) (judged (firstNeed a) level (a .address) v) next))) .reads)
+      entry m l Outside = alone
+      entry m l (Value v) = before ws (item 1 level m v) _ second-only l (judge (judged (firstNeed a) level (a .address) v))
+
+      go : (o : Outcome Machine) → run look w .end ≡ o → Guarded a (ws ++ run look (onward (inspect (first-of a) level next) o) .reads)
+      go (faults f) e = alone
+      go (yields m) e = entry m (let-through look a entryNeed (entryFault a (guest x)) (guest x) on refl m e) (look m)
+
+  guarded-down : (level table : ℕ) → Guarded a (run look (down (first-of a) level table) .reads)
+  unfolding down run
+  guarded-down zero table = guarded-visit zero (slot (first-of a) zero table) (λ x. done (faults (first-of a .fault))) (λ x. plain [] tt)
+  guarded-down (suc l) table = guarded-visit (suc l) (slot (first-of a) (suc l) table) (down (first-of a) l) (guarded-down l)
+
+  guarded-begin : (levels : ℕ) → Guarded a (run look (begin (first-of a) levels) .reads)
+  unfolding begin run
+  guarded-begin zero = plain [] tt
+  guarded-begin (suc l) = go (wellFormed first (suc l) (a .address))
+    where
+      go : (b : Bool) → Guarded a (run look (pick b (down (first-of a) l (a .first .ppn * 4096)) (done (faults (first-of a .fault)))) .reads)
+      go true = guarded-down l (a .first .ppn * 4096)
+      go false = plain [] tt
+
+  module _ (base len : ℕ) where
+    -- the access itself: only second-stage items, and an answer was let through
+    record Final (xs : List Read) (o : Outcome Machine) : Type 0 where
+      only : All 2 xs
+      through : (m : Machine) → o ≡ yields m → LetThrough (a .second) (secondNeed a) xs m
+
+    final-through : (g : Guest) → Final (run look (final base len a g) .reads) (run look (final base len a g) .end)
+    unfolding final run last
+    final-through g = rw (run-bind look w (onward (λ m. done (last base len a m)))) (go (run look w .end) refl)
+      where
+        w : Walk (Outcome Machine)
+        w = translation (second-of a (secondNeed a) (guestPageFault a g) g)
+
+        ws : List Read
+        ws = run look w .reads
+
+        conclude : (m : Machine) → LetThrough (a .second) (secondNeed a) ws m → (b : Bool) → Final (ws ++ []) (pick b (yields m) (faults (accessFault a)))
+        conclude m l true = rw append-nil (record { only = only-second a (secondNeed a) (guestPageFault a g) g look; through = λ m′ e. let q : m ≡ m′ = cc in rw (← q) l })
+        conclude m l false = rw append-nil (record { only = only-second a (secondNeed a) (guestPageFault a g) g look; through = λ m′ e. never (accessFault a) m′ e })
+
+        go : (o : Outcome Machine) → run look w .end ≡ o → Final (ws ++ run look (onward (λ m. done (last base len a m)) o) .reads) (run look (onward (λ m. done (last base len a m)) o) .end)
+        go (faults f) e = rw append-nil (record { only = only-second a (secondNeed a) (guestPageFault a g) g look; through = λ m e. never f m e })
+        go (yields m) e = conclude m (let-through look a (secondNeed a) (guestPageFault a g) g on refl m e) (within base len (m .0) (a .width))
+
+    -- the whole list, and its end
+    record Whole (xs : List Read) (o : Outcome Machine) : Type 0 where
+      guarded : Guarded a xs
+      through : (m : Machine) → o ≡ yields m → EndsThrough (a .second) (secondNeed a) xs m
+
+    whole : Whole (run look (walkOf base len a) .reads) (run look (walkOf base len a) .end)
+    unfolding walkOf run
+    whole = rw (run-bind look w (onward (final base len a))) (go (run look w .end))
+      where
+        w : Walk (Outcome Guest)
+        w = translation (first-of a)
+
+        ws : List Read
+        ws = run look w .reads
+
+        go : (o : Outcome Guest) → Whole (ws ++ run look (onward (final base len a) o) .reads) (run look (onward (final base len a) o) .end)
+        go (faults f) = record { guarded = guarded-more a [] (guarded-begin (a .first .levels)) tt; through = λ m e. never f m e }
+        go (yields g) =
+            let k = final-through g in
+            record {
+              guarded = guarded-more a (run look (final base len a g) .reads) (guarded-begin (a .first .levels)) (k .only);
+              through = λ m e. record { earlier = ws; walk = run look (final base len a g) .reads; split = refl; through = k .through m e };
+            }
+
+-- ---- the same, of each first-stage item by its place in the list
+
+in-all : (s : ℕ) (earlier : List Read) (x : Read) (later : List Read) → All s (earlier ++ (x ∷ later)) → x .stage ≡ s
+in-all s [] x later h = h .0
+in-all s (y ∷ ys) x later h = in-all s ys x later (h .1)
+
+not-both : {P : Type 0} (x : ℕ) → x ≡ 2 → x ≡ 1 → P
+not-both x e f = let no : ⊥ = omega arith in absurd no
+
+-- where an item of the first stage stands in a list that begins with a second-stage walk and an item of the first stage
+cut : (ws earlier : List Read) (x y : Read) (xs later : List Read) → All 2 ws → x .stage ≡ 1 → ws ++ (y ∷ xs) ≡ earlier ++ (x ∷ later)
+    → ((earlier ≡ ws) × (x ≡ y)) ⊎ ((es : List Read) × (earlier ≡ ws ++ (y ∷ es)) × (xs ≡ es ++ (x ∷ later)))
+cut [] [] x y xs later h one e = inl (refl, cc)
+cut [] (z ∷ es) x y xs later h one e = inr (es, (cc), (cc))
+cut (w ∷ ws) [] x y xs later h one e = let q : w ≡ x = cc in not-both (w .stage) (h .0) (ap (λ (r : Read). r .stage) q ∙ one)
+cut (w ∷ ws) (z ∷ es) x y xs later h one e =
+    let q : w ≡ z = cc in
+    let r : ws ++ (y ∷ xs) ≡ es ++ (x ∷ later) = cc in
+    ⊎-elim (λ k. inl (let i : es ≡ ws = k .0 in (cc), k .1)) (λ k. inr (k .0, (let i : es ≡ ws ++ (y ∷ k .0) = k .1 in cc), k .2)) (cut ws es x y xs later (h .1) one r)
+
+by-place : (a : Access) {xs : List Read} → Guarded a xs → (earlier : List Read) (x : Read) (later : List Read) → x .stage ≡ 1 → xs ≡ earlier ++ (x ∷ later)
+    → EndsThrough (a .second) entryNeed earlier (x .address)
+by-place a (plain ws h) earlier x later one e = not-both (x .stage) (in-all 2 earlier x later (rw e at h)) one
+by-place a (before ws y xs h l r) earlier x later one e =
+    ⊎-elim
+    (λ k. record { earlier = []; walk = ws; split = k .0; through = rw (k .1) l })
+    (λ k.
+    let s = by-place a r (k .0) x later one (k .2) in
+    record {
+      earlier = ws ++ (y ∷ s .earlier);
+      walk = s .walk;
+      split = k .1 ∙ ap (λ (es : List Read). ws ++ (y ∷ es)) (s .split) ∙ sym (append-assoc ws (y ∷ s .earlier) (s .walk));
+      through = s .through;
+    })
+    (cut ws earlier x y xs later h one e)
+
+-- ---- demand 3 of the walk
+
+module _ (look : Machine → Entry) (base len : ℕ) (a : Access) (on : 0 < a .second .levels) where
+  -- each guest entry listed lies on a page that a second-stage walk directly before it let through
+  pub guest-entry : (earlier : List Read) (x : Read) (later : List Read) → run look (walkOf base len a) .reads ≡ earlier ++ (x ∷ later) → x .stage ≡ 1
+      → EndsThrough (a .second) entryNeed earlier (x .address)
+  guest-entry earlier x later e one = by-place a (whole look a on base len .guarded) earlier x later one e
+
+  -- an address answered lies on a page that the second-stage walk ending the list let through
+  pub answer-page : (m : Machine) → run look (walkOf base len a) .end ≡ yields m → EndsThrough (a .second) (secondNeed a) (run look (walkOf base len a) .reads) m
+  answer-page m e = whole look a on base len .through m e
+
+-- what the read of a guest entry needs is R
+pub entry-right : (e : ℕ) → granted entryNeed e ≡ true → has R e ≡ true
+entry-right e h = go (has R e) (has X e) h
+  where
+    go : (r x : Bool) → (r || (x && false)) ≡ true → r ≡ true
+    go true x h = refl
+    go false true h = h
+    go false false h = h

@@ -1,0 +1,5 @@
+pub mod Tree
+pub mod Stages
+pub mod Listed
+pub mod Through
+pub mod Place

@@ -1,0 +1,251 @@
+// The walk of an access through both stages, one entry at a time, with its list of reads.
+ghost use mathlib.Core.Path.{_≡_};
+ghost use mathlib.Core.Bool.{true};
+ghost use Prim.Native.Nat.{_+_, _-_, _*_, _≤_, _<_};
+ghost use lib.ListN.{length};
+ghost use Rattle.walk.specs.Tree.{run};
+ghost use Rattle.walk.specs.Stages.{look, walkOf, onward, last};
+ghost use Rattle.walk.specs.Listed.{walked, reached};
+ghost use Rattle.walk.specs.Place.{needAt, faultAt, arrived, entered, outcome, secondAfter, firstAfter, after, Tables, Sound, Leads};
+use bits::select;
+use image::Entry;
+use image::fetch;
+use image::inside;
+use rules::Access;
+use rules::Fault;
+use rules::Guest;
+use rules::Machine;
+use rules::Need;
+use rules::Verdict;
+
+// One entry of the list. stage: 1 first, 2 second
+pub struct Read {
+    pub stage: u64,
+    pub level: u64,
+    pub address: Machine,
+    pub value: u64,
+}
+
+// What a walk comes to.
+pub enum Reached {
+    At(Machine),
+    Failed(Fault),
+}
+
+pub struct Walked {
+    pub reads: [Read; 15],
+    pub count: usize,
+    pub reached: Reached,
+}
+
+// The entry that is looked at next: its stage, level and address. The second stage translates a guest address, for the access
+// itself where the first stage has no level left.
+pub struct Place {
+    pub second: bool,
+    pub level: u64,
+    pub at: Machine,
+    pub left: u64,
+    pub guest: Guest,
+}
+
+pub enum Next {
+    Look(Place),
+    Ended(Reached),
+}
+
+// What the second stage needs of a leaf.
+fn need(a: Access, left: u64) -> Need
+    ensures { λ r. ⌜ r ≡ needAt a left ⌝ }
+{
+    if left == 0 {
+        return a.second_need();
+    }
+    rules::entry_need()
+}
+
+// What the second stage raises.
+fn fault(a: Access, left: u64, guest: Guest) -> Fault
+    ensures { λ r. ⌜ r ≡ faultAt a left guest ⌝ }
+{
+    if left == 0 {
+        return a.guest_page_fault(guest);
+    }
+    a.entry_fault(guest)
+}
+
+// The end of the walk: the whole access must lie in the image.
+fn conclude(base: u64, len: u64, a: Access, m: Machine) -> Reached
+    ensures { λ r. ⌜ outcome r ≡ last base len a m ⌝ }
+{
+    if inside(base, len, m.0, a.width) {
+        return Reached::At(m);
+    }
+    Reached::Failed(a.access_fault())
+}
+
+// The second stage's answer for a guest address: a fault ends the walk; a machine address is that of a first-stage entry, or
+// the access's own.
+fn arrive(base: u64, len: u64, a: Access, left: u64, guest: Guest, answer: Reached) -> Next
+    requires { ⌜ left ≤ a .first .levels ⌝ }
+    ensures { λ r. ⌜ Leads base len a (onward (arrived base len a left) (outcome answer)) r ⌝ }
+{
+    let Reached::At(m) = answer else {
+        return Next::Ended(answer);
+    };
+    if left == 0 {
+        return Next::Ended(conclude(base, len, a, m));
+    }
+    Next::Look(Place {
+        second: false,
+        level: left - 1,
+        at: m,
+        left: left,
+        guest: guest,
+    })
+}
+
+// A guest address goes to the second stage.
+fn enter(base: u64, len: u64, a: Access, left: u64, guest: Guest) -> Next
+    requires { ⌜ Tables a × (left ≤ a .first .levels) ⌝ }
+    ensures { λ r. ⌜ Leads base len a (entered base len a left guest) r ⌝ }
+{
+    let tables = a.second;
+    let levels = tables.levels;
+    let address = guest.0;
+    if levels == 0 {
+        return arrive(base, len, a, left, guest, Reached::At(Machine(address)));
+    }
+    if !rules::is_small(levels, address) {
+        return Next::Ended(Reached::Failed(fault(a, left, guest)));
+    }
+    Next::Look(Place {
+        second: true,
+        level: levels - 1,
+        at: Machine(tables.ppn * 4096 + 8 * rules::root_index(levels, address)),
+        left: left,
+        guest: guest,
+    })
+}
+
+// On from a second-stage entry.
+fn second_step(base: u64, len: u64, a: Access, p: Place, e: u64) -> Next
+    requires { ⌜ Tables a × (p .level < a .second .levels) × (p .left ≤ a .first .levels) ⌝ }
+    ensures { λ r. ⌜ Leads base len a (secondAfter base len a p e) r ⌝ }
+{
+    let level = p.level;
+    let left = p.left;
+    let guest = p.guest;
+    let address = guest.0;
+    match need(a, left).judge(level, address, e) {
+        Verdict::Bad => Next::Ended(Reached::Failed(fault(a, left, guest))),
+        Verdict::Leaf(x) => arrive(base, len, a, left, guest, Reached::At(Machine(x))),
+        Verdict::Pointer(table) => Next::Look(Place {
+            second: true,
+            level: level - 1,
+            at: Machine(table + 8 * rules::index(level - 1, address)),
+            left: left,
+            guest: guest,
+        }),
+    }
+}
+
+// On from a first-stage entry.
+fn first_step(base: u64, len: u64, a: Access, level: u64, e: u64) -> Next
+    requires { ⌜ Tables a × (level < a .first .levels) ⌝ }
+    ensures { λ r. ⌜ Leads base len a (firstAfter base len a level e) r ⌝ }
+{
+    let address = a.address;
+    match a.first_need().judge(level, address, e) {
+        Verdict::Bad => Next::Ended(Reached::Failed(a.page_fault())),
+        Verdict::Leaf(x) => enter(base, len, a, 0, Guest(x)),
+        Verdict::Pointer(table) => {
+            enter(
+                base,
+                len,
+                a,
+                level,
+                Guest(table + 8 * rules::index(level - 1, address)),
+            )
+        }
+    }
+}
+
+// On from an entry of either stage.
+fn step(base: u64, len: u64, a: Access, p: Place, e: u64) -> Next
+    requires { ⌜ Tables a × Sound a p ⌝ }
+    ensures { λ r. ⌜ Leads base len a (after base len a p e) r ⌝ }
+{
+    if p.second {
+        return second_step(base, len, a, p, e);
+    }
+    first_step(base, len, a, p.level, e)
+}
+
+// The first place of a walk.
+fn start(base: u64, len: u64, a: Access) -> Next
+    requires { ⌜ Tables a ⌝ }
+    ensures { λ r. ⌜ Leads base len a (walkOf base len a) r ⌝ }
+{
+    let tables = a.first;
+    let levels = tables.levels;
+    let address = a.address;
+    if levels == 0 {
+        return enter(base, len, a, 0, Guest(address));
+    }
+    if !rules::is_extended(levels, address) {
+        return Next::Ended(Reached::Failed(a.page_fault()));
+    }
+    enter(
+        base,
+        len,
+        a,
+        levels,
+        Guest(tables.ppn * 4096 + 8 * rules::index(levels - 1, address)),
+    )
+}
+
+// The walk of an access over an image.
+pub fn walk(base: u64, bytes: &[u8], a: Access) -> Walked
+    requires { ⌜ Tables a × (a .first .levels ≤ 3) × (a .second .levels ≤ 3) ⌝ }
+    ensures { λ r. ⌜ r ≡ walked (run (look base (now (bytes .entry))) (walkOf base (length (now (bytes .entry))) a)) ⌝ }
+{
+    let len = bytes.len() as u64;
+    let mut reads = [Read {
+        stage: 0,
+        level: 0,
+        address: Machine(0),
+        value: 0,
+    }; 15];
+    let mut count: usize = 0;
+    let mut next = start(base, len, a);
+    loop {
+        match next {
+            Next::Ended(reached) => {
+                return Walked {
+                    reads: reads,
+                    count: count,
+                    reached: reached,
+                };
+            }
+            Next::Look(p) => {
+                let at = p.at;
+                let address = at.0;
+                let Entry::Value(e) = fetch(base, bytes, address) else {
+                    return Walked {
+                        reads: reads,
+                        count: count,
+                        reached: Reached::Failed(a.access_fault()),
+                    };
+                };
+                reads[count] = Read {
+                    stage: select(p.second, 2, 1),
+                    level: p.level,
+                    address: at,
+                    value: e,
+                };
+                count = count + 1;
+                next = step(base, len, a, p, e);
+            }
+        }
+    }
+}
