@@ -1,4 +1,7 @@
-// Document 01's replays of the translation: an image's length, and the guest whose hgatp has root PPN 80004 hex.
+// Document 01's replays of the translation: an image's length; the guest whose hgatp has root PPN 80004 hex; the deepest walk.
+mod deepest;
+mod show;
+
 use libc::STDOUT_FILENO;
 use rules::Kind;
 use translate::translate;
@@ -27,4 +30,5 @@ fn main() {
     show::put(&mut image, 0x9008, 0x2000_4057);
     show::write(translate(h, base, &image, Kind::Load, 0x4000_1008, 8));
     show::write(translate(h, base, &image, Kind::Store, 0x4000_1008, 8));
+    deepest::run();
 }

@@ -23,11 +23,11 @@ use Rattle.translate.specs.declared.Answer.{Answer}
 use Rattle.translate.specs.declared.Mode.{Mode}
 use Rattle.translate.specs.declared.Translated.{Translated}
 use Rattle.translate.specs.Effective.{effective, root, off, firstRoot, secondRoot, accessOf}
-use Rattle.translate.specs.Translated.{unheard, answer, walkedTo}
+use Rattle.translate.specs.Translated.{unsupported, answer, walkedTo}
 
 -- an access that is not refused has a width
-pub some-width : (kind : Kind) (address width : ℕ) → unheard kind address width ≡ false → 0 < width
-unfolding unheard
+pub some-width : (kind : Kind) (address width : ℕ) → unsupported kind address width ≡ false → 0 < width
+unfolding unsupported
 some-width kind address zero h = clash (sym h)
 some-width kind address (suc w) h = omega arith
 

@@ -27,7 +27,7 @@ use Rattle.walk.proofs.Guarded.{guest-entry, answer-page}
 use Rattle.translate.specs.declared.Answer.{Answer}
 use Rattle.translate.specs.declared.Translated.{Translated}
 use Rattle.translate.specs.Effective.{accessOf}
-use Rattle.translate.specs.Translated.{unheard, misaligned, answer, unwalked, walkedTo, translated}
+use Rattle.translate.specs.Translated.{unsupported, misaligned, answer, unwalked, walkedTo, translated}
 use Rattle.translate.proofs.Accesses.{tables-of}
 
 -- the items listed: the places up to the count
@@ -66,12 +66,12 @@ module _ (h : Hart) (base : ℕ) (bytes : List ℕ) (kind : Kind) (address width
   each P u w =
       pick-both P (not (passes h)) _ _ (λ e. u (Answer.Refused 2) (refused 2))
       (λ e. pick-both P (unfit base (length bytes)) _ _ (λ e. u (Answer.Refused 1) (refused 1))
-      (λ e. pick-both P (unheard kind address width) _ _ (λ e. u (Answer.Refused 3) (refused 3))
+      (λ e. pick-both P (unsupported kind address width) _ _ (λ e. u (Answer.Refused 3) (refused 3))
       (λ e. pick-both P (misaligned kind address width) _ _ (λ e. u (Answer.Fault (misalignment a)) misaligned-by) (λ e. w))))
 
   -- ---- answer and list are those of the walk
 
-  pub is-walk : passes h ≡ true → unfit base (length bytes) ≡ false → unheard kind address width ≡ false → misaligned kind address width ≡ false → t ≡ walkedTo h ran
+  pub is-walk : passes h ≡ true → unfit base (length bytes) ≡ false → unsupported kind address width ≡ false → misaligned kind address width ≡ false → t ≡ walkedTo h ran
   unfolding translated
   is-walk p q r s = rw (p, q, r, s)
 
@@ -125,7 +125,7 @@ module _ (h : Hart) (base : ℕ) (bytes : List ℕ) (kind : Kind) (address width
 pub same-image : (h : Hart) (base : ℕ) (s s′ : List ℕ) (kind : Kind) (address width : ℕ) → length s ≡ length s′
     → Agree (look base s) (look base s′) (listed (translated h base s kind address width)) → translated h base s′ kind address width ≡ translated h base s kind address width
 unfolding translated
-same-image h base s s′ kind address width e = rw (← e) (go (not (passes h)) (unfit base (length s)) (unheard kind address width) (misaligned kind address width))
+same-image h base s s′ kind address width e = rw (← e) (go (not (passes h)) (unfit base (length s)) (unsupported kind address width) (misaligned kind address width))
   where
     w : Walk (Outcome Machine)
     w = walkOf base (length s) (accessOf h kind address width)

@@ -15,13 +15,13 @@ use Rattle.rules.specs.Kind.{by}
 use Rattle.translate.specs.declared.Mode.{Mode}
 
 -- "in M with MPRV=1 a load or store uses MPP"
-abbrev pub lent : Hart → Kind → Bool
-lent h kind = isM (context h) && isSet MPRV (reg h mstatus) && by kind false true true
+abbrev pub usesMPP : Hart → Kind → Bool
+usesMPP h kind = isM (context h) && isSet MPRV (reg h mstatus) && by kind false true true
 
 -- "Effective mode: the hart's, but in M with MPRV=1 a load or store uses MPP, and MPV if MPP isn't 3."
 abbrev pub effective : Hart → Kind → Mode
 effective h kind =
-    pick (lent h kind)
+    pick (usesMPP h kind)
     (record { v = not (eqb (get MPP (reg h mstatus)) 3) && isSet MPV (reg h mstatus); privilege = get MPP (reg h mstatus) })
     (record { v = eqb (h .v) 1; privilege = h .privilege })
 

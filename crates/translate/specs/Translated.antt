@@ -20,8 +20,8 @@ use Rattle.translate.specs.declared.Translated.{Translated}
 use Rattle.translate.specs.Effective.{accessOf}
 
 -- Refusal 3: "width not 1, 2, 4 or 8; a fetch whose width isn't 4 or whose address isn't a multiple of 4"
-unfoldable pub unheard : Kind → ℕ → ℕ → Bool
-unheard kind address width =
+unfoldable pub unsupported : Kind → ℕ → ℕ → Bool
+unsupported kind address width =
     not (eqb width 1 || eqb width 2 || eqb width 4 || eqb width 8)
     || by kind (not (eqb width 4) || not (eqb (address % 4) 0)) false false
 
@@ -46,6 +46,6 @@ unfoldable pub translated : Hart → ℕ → List ℕ → Kind → ℕ → ℕ �
 translated h base bytes kind address width =
     pick (not (passes h)) (unwalked h (Answer.Refused 2))
     (pick (unfit base (length bytes)) (unwalked h (Answer.Refused 1))
-    (pick (unheard kind address width) (unwalked h (Answer.Refused 3))
+    (pick (unsupported kind address width) (unwalked h (Answer.Refused 3))
     (pick (misaligned kind address width) (unwalked h (Answer.Fault (misalignment (accessOf h kind address width))))
     (walkedTo h (run (look base bytes) (walkOf base (length bytes) (accessOf h kind address width)))))))

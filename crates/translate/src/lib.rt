@@ -3,7 +3,7 @@ ghost use mathlib.Core.Path.{_≡_};
 ghost use Prim.Native.Nat.{_%_, _<_};
 ghost use Rattle.walk.specs.Place.{outcome};
 ghost use Rattle.translate.specs.Effective.{effective, root, off, firstRoot, secondRoot, inMode, accessOf};
-ghost use Rattle.translate.specs.Translated.{unheard, misaligned, answer, unwalked, translated};
+ghost use Rattle.translate.specs.Translated.{unsupported, misaligned, answer, unwalked, translated};
 use hart::state::Hart;
 use registers::fields;
 use registers::places;
@@ -118,7 +118,7 @@ fn access(h: Hart, kind: Kind, address: u64, width: u64) -> Access
 
 // Whether an access is refused as 3.
 fn refused(kind: Kind, address: u64, width: u64) -> bool
-    ensures { λ r. ⌜ r ≡ unheard kind address width ⌝ }
+    ensures { λ r. ⌜ r ≡ unsupported kind address width ⌝ }
 {
     let known = (width == 1) | (width == 2) | (width == 4) | (width == 8);
     let fetch = !(width == 4) | !(address % 4 == 0);

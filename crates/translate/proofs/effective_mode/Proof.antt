@@ -1,6 +1,6 @@
 use mathlib.Core.Path.{_≡_}
 use mathlib.Core.Bool.{true, false}
-use Rattle.translate.specs.Effective.{lent}
+use Rattle.translate.specs.Effective.{usesMPP}
 use borrow.Author.Needs.{needs}
 use Rattle.translate.proofs.effective_mode.Statement.{statement}
 use Rattle.translate.proofs.effective_mode.Tie as tie
@@ -29,13 +29,13 @@ get-requires-3 c κs = search needs
 returns : tie.Need-returns
 returns c =
     let a = c .before .before .before .before .before .before .before .before .args in
-    let q : lent (a .t1) (a .kind) ≡ true = rw (c .before .before .before .before .is-m .ensures, c .before .before .before .before .before .context .ensures, c .before .before .before .get .ensures, c .before .before .before .before .before .before .test .ensures) at (c .before .before .if1 .taken) in
+    let q : usesMPP (a .t1) (a .kind) ≡ true = rw (c .before .before .before .before .is-m .ensures, c .before .before .before .before .before .context .ensures, c .before .before .before .get .ensures, c .before .before .before .before .before .before .test .ensures) at (c .before .before .if1 .taken) in
     rw (q, c .get3 .ensures, c .before .get2 .ensures)
 
 returns-2 : tie.Need-returns-2
 returns-2 c =
     let a = c .before .before .before .before .before .before .args in
-    let q : lent (a .t1) (a .kind) ≡ false = rw (c .before .before .is-m .ensures, c .before .before .before .context .ensures, c .before .get .ensures, c .before .before .before .before .test .ensures) at (c .if1 .left) in
+    let q : usesMPP (a .t1) (a .kind) ≡ false = rw (c .before .before .is-m .ensures, c .before .before .before .context .ensures, c .before .get .ensures, c .before .before .before .before .test .ensures) at (c .if1 .left) in
     rw q
 
 pub effective-mode-spec : {M : Type 1} → statement M

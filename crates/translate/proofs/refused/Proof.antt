@@ -1,4 +1,4 @@
-use Rattle.translate.specs.Translated.{unheard}
+use Rattle.translate.specs.Translated.{unsupported}
 use borrow.Author.Needs.{needs}
 use Rattle.translate.proofs.refused.Statement.{statement}
 use Rattle.translate.proofs.refused.Tie as tie
@@ -7,7 +7,7 @@ test-requires : tie.Need-test-requires
 test-requires c κs = search needs
 
 returns : tie.Need-returns
-unfolding unheard
+unfolding unsupported
 returns c = cc
 
 pub refused-spec : {M : Type 1} → statement M

@@ -1,0 +1,189 @@
+//! The comparison of two programs.
+
+use std::fmt;
+use std::io;
+use std::path::Path;
+use std::time::{Duration, Instant};
+
+use crate::coverage::Coverage;
+use crate::generate::{bad_script, script};
+use crate::program::{Outcome, Program, Script, Status};
+use crate::shrink::shrink;
+
+/// A run of this many events must reach everything that can be reached.
+pub const FULL_RUN: u64 = 200_000;
+/// Events of one script.
+pub const SCRIPT_EVENTS: u64 = 2500;
+/// How long a script with a difference may be shrunk: some programs are slow, or do not end.
+const SHRINKING_TIME: Duration = Duration::from_secs(300);
+/// Small bad scripts beside each script.
+const BAD_SCRIPTS: u64 = 3;
+
+/// What a run does.
+#[derive(Clone, Copy, Debug, PartialEq, Eq)]
+pub struct Options {
+    /// The least number of events.
+    pub events: u64,
+    /// The seed of the scripts.
+    pub seed: u64,
+}
+
+/// Two programs that gave different bytes or ended differently, and the smallest script that shows it.
+#[derive(Clone, Debug, PartialEq, Eq)]
+pub struct Difference {
+    /// The place of the script in the run.
+    pub place: u64,
+    /// The smallest script.
+    pub script: Script,
+    /// What the first program gave for it.
+    pub first: Outcome,
+    /// What the second program gave for it.
+    pub second: Outcome,
+}
+
+/// Why a run failed.
+#[derive(Debug)]
+pub enum Failure {
+    /// The programs differ.
+    Different(Box<Difference>),
+    /// A program could not be run.
+    NotRun(String, io::Error),
+}
+
+/// Runs both programs over the scripts of a seed. Ends at the first difference.
+pub fn compare(
+    first: &dyn Program,
+    second: &dyn Program,
+    options: &Options,
+    folder: &Path,
+) -> Result<Coverage, Failure> {
+    let mut coverage = Coverage::default();
+    let mut place = 0;
+    while coverage.events < options.events {
+        let events = (options.events - coverage.events).min(SCRIPT_EVENTS);
+        let (script, reached) = script(options.seed, place, events, folder);
+        let output = compare_on(first, second, place, &script)?;
+        coverage.add(&reached);
+        coverage.read_output(&output);
+        for bad in 0..BAD_SCRIPTS {
+            let (script, reached) = bad_script(options.seed, place * BAD_SCRIPTS + bad, folder);
+            let output = compare_on(first, second, place, &script)?;
+            coverage.add(&reached);
+            coverage.read_output(&output);
+        }
+        place += 1;
+    }
+    Ok(coverage)
+}
+
+/// Runs both programs on one script; the output where they agree.
+fn compare_on(
+    first: &dyn Program,
+    second: &dyn Program,
+    place: u64,
+    script: &Script,
+) -> Result<Vec<u8>, Failure> {
+    let (one, other) = both(first, second, script)?;
+    if one == other {
+        return Ok(one.output);
+    }
+    let begin = Instant::now();
+    let lines = shrink(&script.lines, |lines| {
+        if begin.elapsed() > SHRINKING_TIME {
+            return false;
+        }
+        let candidate = script.with_lines(lines.to_vec());
+        match both(first, second, &candidate) {
+            Ok((one, other)) => one != other,
+            Err(_) => false,
+        }
+    });
+    let mut smallest = script.with_lines(lines);
+    let (mut one, mut other) = both(first, second, &smallest)?;
+    if one == other {
+        // It does not show twice: the whole script is all there is.
+        smallest = script.clone();
+        (one, other) = both(first, second, &smallest)?;
+    }
+    Err(Failure::Different(Box::new(Difference {
+        place,
+        script: smallest,
+        first: one,
+        second: other,
+    })))
+}
+
+fn both(
+    first: &dyn Program,
+    second: &dyn Program,
+    script: &Script,
+) -> Result<(Outcome, Outcome), Failure> {
+    let run = |program: &dyn Program| {
+        program
+            .run(script)
+            .map_err(|error| Failure::NotRun(program.name(), error))
+    };
+    Ok((run(first)?, run(second)?))
+}
+
+impl fmt::Display for Status {
+    fn fmt(&self, formatter: &mut fmt::Formatter) -> fmt::Result {
+        match self {
+            Status::Exit(code) => write!(formatter, "exit status {code}"),
+            Status::Broken => write!(formatter, "no exit status (ended by a signal)"),
+            Status::TooLong => write!(formatter, "no end within its time"),
+        }
+    }
+}
+
+impl fmt::Display for Difference {
+    fn fmt(&self, formatter: &mut fmt::Formatter) -> fmt::Result {
+        let way = if self.script.through_input {
+            "standard input"
+        } else {
+            "a file"
+        };
+        writeln!(
+            formatter,
+            "the programs differ in script {}; the smallest script that shows it (from {way}):",
+            self.place
+        )?;
+        for line in &self.script.lines {
+            writeln!(formatter, "    {}", printable(line))?;
+        }
+        for (name, outcome) in [("first", &self.first), ("second", &self.second)] {
+            writeln!(formatter, "the {name} program, {}:", outcome.status)?;
+            for line in outcome.output.split(|byte| *byte == b'\n') {
+                if !line.is_empty() {
+                    writeln!(formatter, "    {}", printable(line))?;
+                }
+            }
+        }
+        write!(
+            formatter,
+            "the first differing byte is number {}",
+            self.first_byte()
+        )
+    }
+}
+
+impl Difference {
+    /// The place of the first byte that differs, from 0.
+    fn first_byte(&self) -> usize {
+        let same = self
+            .first
+            .output
+            .iter()
+            .zip(&self.second.output)
+            .take_while(|(one, other)| one == other);
+        same.count()
+    }
+}
+
+/// A line for people: text as it is, other bytes escaped.
+fn printable(line: &[u8]) -> String {
+    match std::str::from_utf8(line) {
+        Ok(text) if !text.chars().any(char::is_control) => text.to_string(),
+        _ => line.escape_ascii().to_string(),
+    }
+}

@@ -1,0 +1,530 @@
+//! What the scripts and their answers reached.
+//!
+//! Two sources: the outputs of the programs under comparison (causes of faults, refusals, list lengths, stages and levels of
+//! reads, bad lines), and the second program's library while a script is written (the rule that ended a walk, the traps that
+//! were delivered and where to, which are not in any answer).
+
+use std::collections::BTreeMap;
+use std::fmt::Write as _;
+
+use second::access::Action;
+use second::hart::{Hart, Mode};
+use second::registers::{find, ROWS};
+use second::script::{Answer, Instruction, Line};
+use second::trap::{Ending, Target};
+use second::walk::{Kind, Part, Rule, Why};
+
+/// The words of the events, in REPLAY.md's order.
+pub const WORDS: [&str; 17] = [
+    "fetch",
+    "load",
+    "store",
+    "read",
+    "write",
+    "set",
+    "clear",
+    "trap",
+    "ecall",
+    "ebreak",
+    "mret",
+    "sret",
+    "wfi",
+    "sfence.vma",
+    "hfence.vvma",
+    "hfence.gvma",
+    "show",
+];
+
+/// The causes that exist.
+pub const CAUSES: [u64; 19] = [
+    0, 1, 2, 3, 4, 5, 6, 7, 8, 9, 10, 11, 12, 13, 15, 20, 21, 22, 23,
+];
+
+/// The causes that a translation can answer.
+const FAULT_CAUSES: [u64; 11] = [1, 4, 5, 6, 7, 12, 13, 15, 20, 21, 23];
+
+/// Counts of what was reached.
+#[derive(Clone, Debug, Default, PartialEq, Eq)]
+pub struct Coverage {
+    /// Event words.
+    pub words: BTreeMap<&'static str, u64>,
+    /// Events (without `show`).
+    pub events: u64,
+    /// Rules that ended a walk.
+    pub rules: BTreeMap<Why, u64>,
+    /// Traps delivered, by cause and target.
+    pub delivered: BTreeMap<(u64, Target), u64>,
+    /// Instructions without operands, by word and mode.
+    pub instructions: BTreeMap<(&'static str, Mode), u64>,
+    /// Accesses to listed registers, by number and mode.
+    pub registers: BTreeMap<(u64, Mode), u64>,
+    /// Translations by the mode of the hart that passed its check.
+    pub translations: BTreeMap<Mode, u64>,
+    /// Refusals by event word and number.
+    pub refused_words: BTreeMap<(&'static str, u64), u64>,
+    /// From the outputs: `refused N`.
+    pub refusals: BTreeMap<u64, u64>,
+    /// From the outputs: `fault CAUSE`.
+    pub faults: BTreeMap<u64, u64>,
+    /// From the outputs: `address`.
+    pub addresses: u64,
+    /// From the outputs: lengths of the lists of `address` and `fault` answers.
+    pub lengths: BTreeMap<u64, u64>,
+    /// From the outputs: `read STAGE LEVEL`.
+    pub reads: BTreeMap<(u64, u64), u64>,
+    /// From the outputs: `error`.
+    pub bad_lines: u64,
+    /// Scripts compared.
+    pub scripts: u64,
+    /// Bytes of output compared.
+    pub bytes: u64,
+}
+
+/// The word of a line that is an event.
+pub fn event_word(line: &Line) -> Option<&'static str> {
+    let word = match line {
+        Line::Translate(access) => match access.kind {
+            Kind::Fetch => "fetch",
+            Kind::Load => "load",
+            Kind::Store => "store",
+        },
+        Line::Register { action, .. } => match action {
+            Action::Read => "read",
+            Action::Write(_) => "write",
+            Action::Set { .. } => "set",
+            Action::Clear { .. } => "clear",
+        },
+        Line::Trap(_) => "trap",
+        Line::Instruction(instruction) => match instruction {
+            Instruction::Ecall => "ecall",
+            Instruction::Ebreak => "ebreak",
+            Instruction::Mret => "mret",
+            Instruction::Sret => "sret",
+            Instruction::Wfi => "wfi",
+            Instruction::SfenceVma => "sfence.vma",
+            Instruction::HfenceVvma => "hfence.vvma",
+            Instruction::HfenceGvma => "hfence.gvma",
+        },
+        Line::Show => "show",
+        _ => return None,
+    };
+    Some(word)
+}
+
+/// One more of these.
+fn count<K: Ord>(counts: &mut BTreeMap<K, u64>, key: K) {
+    *counts.entry(key).or_insert(0) += 1;
+}
+
+/// Adds the counts of another.
+fn add<K: Ord + Copy>(counts: &mut BTreeMap<K, u64>, others: &BTreeMap<K, u64>) {
+    for (key, number) in others {
+        *counts.entry(*key).or_insert(0) += number;
+    }
+}
+
+impl Coverage {
+    /// Notes a line of a script, the hart before it and its answer.
+    pub fn note(&mut self, line: &Line, before: &Hart, answer: &Answer) {
+        let Some(word) = event_word(line) else {
+            return;
+        };
+        count(&mut self.words, word);
+        if word != "show" {
+            self.events += 1;
+        }
+        match answer {
+            Answer::Nothing | Answer::Hart(_) => {}
+            Answer::Translation(translation) => {
+                if let second::walk::Answer::Refused(number) = translation.answer {
+                    count(&mut self.refused_words, (word, number));
+                } else if let Some(mode) = before.checked_mode() {
+                    count(&mut self.translations, mode);
+                }
+                if let Some(why) = translation.why {
+                    count(&mut self.rules, why);
+                }
+            }
+            Answer::Register(accessed) => self.note_ending(word, &accessed.outcome.ending),
+            Answer::Event(outcome) => self.note_ending(word, &outcome.ending),
+        }
+        if let Some(mode) = before.checked_mode() {
+            self.note_mode(line, word, mode);
+        }
+    }
+
+    fn note_ending(&mut self, word: &'static str, ending: &Ending) {
+        match ending {
+            Ending::Refused(number) => count(&mut self.refused_words, (word, *number)),
+            Ending::Trapped(trap, target) => count(&mut self.delivered, (trap.cause, *target)),
+            Ending::Done => {}
+        }
+    }
+
+    fn note_mode(&mut self, line: &Line, word: &'static str, mode: Mode) {
+        match line {
+            Line::Instruction(_) => count(&mut self.instructions, (word, mode)),
+            Line::Register { number, .. } if find(*number).is_some() => {
+                count(&mut self.registers, (*number, mode));
+            }
+            _ => {}
+        }
+    }
+
+    /// Counts what a program wrote.
+    pub fn read_output(&mut self, output: &[u8]) {
+        self.scripts += 1;
+        self.bytes += output.len() as u64;
+        let mut open_list: Option<u64> = None;
+        for line in output.split(|byte| *byte == b'\n') {
+            let mut words = line.split(|byte| *byte == b' ');
+            let word = words.next().unwrap_or(b"");
+            let mut number = || {
+                words
+                    .next()
+                    .and_then(second::script::parse_number)
+                    .unwrap_or(u64::MAX)
+            };
+            if word == b"read" {
+                count(&mut self.reads, (number(), number()));
+                open_list = open_list.map(|length| length + 1);
+                continue;
+            }
+            if let Some(length) = open_list.take() {
+                count(&mut self.lengths, length);
+            }
+            match word {
+                b"address" => {
+                    self.addresses += 1;
+                    open_list = Some(0);
+                }
+                b"fault" => {
+                    count(&mut self.faults, number());
+                    open_list = Some(0);
+                }
+                b"refused" => count(&mut self.refusals, number()),
+                b"error" => self.bad_lines += 1,
+                _ => {}
+            }
+        }
+    }
+
+    /// Adds another's counts.
+    pub fn add(&mut self, other: &Coverage) {
+        add(&mut self.words, &other.words);
+        self.events += other.events;
+        add(&mut self.rules, &other.rules);
+        add(&mut self.delivered, &other.delivered);
+        add(&mut self.instructions, &other.instructions);
+        add(&mut self.registers, &other.registers);
+        add(&mut self.translations, &other.translations);
+        add(&mut self.refused_words, &other.refused_words);
+        add(&mut self.refusals, &other.refusals);
+        add(&mut self.faults, &other.faults);
+        self.addresses += other.addresses;
+        add(&mut self.lengths, &other.lengths);
+        add(&mut self.reads, &other.reads);
+        self.bad_lines += other.bad_lines;
+        self.scripts += other.scripts;
+        self.bytes += other.bytes;
+    }
+
+    /// What must be reached and was not.
+    pub fn missing(&self) -> Vec<String> {
+        let mut missing = Vec::new();
+        for word in WORDS {
+            if !self.words.contains_key(word) {
+                missing.push(format!("the event word {word}"));
+            }
+        }
+        for cause in CAUSES {
+            for target in targets_of(cause) {
+                if !self.delivered.contains_key(&(cause, target)) {
+                    missing.push(format!("cause {cause} delivered to {target:?}"));
+                }
+            }
+        }
+        for cause in FAULT_CAUSES {
+            if !self.faults.contains_key(&cause) {
+                missing.push(format!("a fault of cause {cause}"));
+            }
+        }
+        for number in 1..=5 {
+            if !self.refusals.contains_key(&number) {
+                missing.push(format!("refusal {number}"));
+            }
+        }
+        for length in 0..=15 {
+            if !self.lengths.contains_key(&length) {
+                missing.push(format!("a list of {length} reads"));
+            }
+        }
+        for stage in 1..=2 {
+            for level in 0..3 {
+                if !self.reads.contains_key(&(stage, level)) {
+                    missing.push(format!("a read of stage {stage} at level {level}"));
+                }
+            }
+        }
+        for why in reachable_rules() {
+            if !self.rules.contains_key(&why) {
+                missing.push(format!("the rule {}", describe(&why)));
+            }
+        }
+        for mode in Mode::ALL {
+            for row in &ROWS {
+                if !self.registers.contains_key(&(row.number, mode)) {
+                    missing.push(format!("an access to {} in {mode:?}", row.name));
+                }
+            }
+            for word in &WORDS[8..16] {
+                if !self.instructions.contains_key(&(*word, mode)) {
+                    missing.push(format!("{word} in {mode:?}"));
+                }
+            }
+            if !self.translations.contains_key(&mode) {
+                missing.push(format!("a translation in {mode:?}"));
+            }
+        }
+        if self.bad_lines == 0 {
+            missing.push("a bad line".to_string());
+        }
+        missing
+    }
+
+    /// The counts, for people.
+    pub fn table(&self) -> String {
+        let mut text = String::new();
+        let _ = writeln!(
+            text,
+            "events {} (and {} show), scripts {}, bad lines {}, bytes compared {}",
+            self.events,
+            self.words.get("show").unwrap_or(&0),
+            self.scripts,
+            self.bad_lines,
+            self.bytes
+        );
+        self.table_of_events(&mut text);
+        self.table_of_answers(&mut text);
+        self.table_of_rules(&mut text);
+        text
+    }
+
+    fn table_of_events(&self, text: &mut String) {
+        text.push_str("event words:");
+        for word in WORDS {
+            let _ = write!(text, " {word} {}", self.words.get(word).unwrap_or(&0));
+        }
+        text.push_str("\ntraps delivered, by cause (to M / HS / VS):");
+        for cause in CAUSES {
+            let to = |target| self.delivered.get(&(cause, target)).unwrap_or(&0);
+            let _ = write!(
+                text,
+                " {cause}: {}/{}/{}",
+                to(Target::M),
+                to(Target::Hs),
+                to(Target::Vs)
+            );
+        }
+        text.push_str("\ntranslations by mode:");
+        for (mode, number) in &self.translations {
+            let _ = write!(text, " {mode:?} {number}");
+        }
+        let _ = writeln!(
+            text,
+            "\nregisters by mode: {} of {} reached",
+            self.registers.len(),
+            ROWS.len() * Mode::ALL.len()
+        );
+    }
+
+    fn table_of_answers(&self, text: &mut String) {
+        let _ = write!(text, "addresses {}; faults by cause:", self.addresses);
+        for (cause, number) in &self.faults {
+            let _ = write!(text, " {cause}: {number}");
+        }
+        text.push_str("\nrefusals:");
+        for (refusal, number) in &self.refusals {
+            let _ = write!(text, " {refusal}: {number}");
+        }
+        text.push_str("\nrefusals by event word:");
+        for ((word, refusal), number) in &self.refused_words {
+            let _ = write!(text, " {word}/{refusal}: {number}");
+        }
+        text.push_str("\nlist lengths:");
+        for (length, number) in &self.lengths {
+            let _ = write!(text, " {length}: {number}");
+        }
+        text.push_str("\nreads by stage and level:");
+        for ((stage, level), number) in &self.reads {
+            let _ = write!(text, " {stage}/{level}: {number}");
+        }
+        text.push('\n');
+    }
+
+    fn table_of_rules(&self, text: &mut String) {
+        let all = reachable_rules();
+        let reached = all
+            .iter()
+            .filter(|why| self.rules.contains_key(why))
+            .count();
+        let _ = writeln!(
+            text,
+            "fault rules by part and level: {reached} of {} reached; the rarest:",
+            all.len()
+        );
+        let mut counts: Vec<(u64, &Why)> = self
+            .rules
+            .iter()
+            .map(|(why, number)| (*number, why))
+            .collect();
+        counts.sort();
+        for (number, why) in counts.iter().take(8) {
+            let _ = writeln!(text, "  {} {number}", describe(why));
+        }
+        let mut by_rule: BTreeMap<Rule, u64> = BTreeMap::new();
+        for (why, number) in &self.rules {
+            *by_rule.entry(why.rule).or_insert(0) += number;
+        }
+        text.push_str("fault rules:");
+        for (rule, number) in &by_rule {
+            let _ = write!(text, " {rule:?} {number}");
+        }
+        text.push('\n');
+    }
+}
+
+/// Where a cause can be delivered to: medeleg has no bit 11, hedeleg no bit 9, 10, 11, 20 to 23; 9 and 11 come with V=0.
+fn targets_of(cause: u64) -> Vec<Target> {
+    let mut targets = vec![Target::M];
+    if cause != 11 {
+        targets.push(Target::Hs);
+    }
+    if matches!(cause, 0..=8 | 12 | 13 | 15) {
+        targets.push(Target::Vs);
+    }
+    targets
+}
+
+/// Every rule at every part and level where it can hold.
+pub fn reachable_rules() -> Vec<Why> {
+    let mut rules = Vec::new();
+    for rule in [Rule::Misaligned, Rule::AccessOutside] {
+        rules.push(Why {
+            rule,
+            part: Part::Access,
+            level: None,
+        });
+    }
+    for part in [
+        Part::Satp,
+        Part::Vsatp,
+        Part::HgatpForEntry,
+        Part::HgatpForAccess,
+    ] {
+        rules.push(Why {
+            rule: Rule::HighBits,
+            part,
+            level: None,
+        });
+        for level in 0..3 {
+            for rule in entry_rules(part, level) {
+                rules.push(Why {
+                    rule,
+                    part,
+                    level: Some(level),
+                });
+            }
+        }
+    }
+    rules
+}
+
+/// The rules about an entry that can hold at a part and level.
+fn entry_rules(part: Part, level: u64) -> Vec<Rule> {
+    let mut rules = vec![
+        Rule::EntryOutside,
+        Rule::NotValid,
+        Rule::WriteWithoutRead,
+        Rule::ReservedBits,
+        Rule::PointerWithA,
+        Rule::PointerWithD,
+        Rule::PointerWithU,
+        Rule::NotAccessed,
+        Rule::NotUser,
+        Rule::NotReadable,
+    ];
+    rules.push(if level == 0 {
+        Rule::PointerAtLevelZero
+    } else {
+        Rule::LargeLeafLowPpn
+    });
+    if part != Part::HgatpForEntry {
+        rules.extend([Rule::NotDirty, Rule::NotWritable, Rule::NotExecutable]);
+    }
+    if matches!(part, Part::Satp | Part::Vsatp) {
+        rules.extend([Rule::SupervisorFetch, Rule::SupervisorNeedsSum]);
+    }
+    rules
+}
+
+/// A rule and its place, for people.
+pub fn describe(why: &Why) -> String {
+    match why.level {
+        Some(level) => format!("{:?} at level {level} of {:?}", why.rule, why.part),
+        None => format!("{:?} of {:?}", why.rule, why.part),
+    }
+}
+
+#[cfg(test)]
+mod tests {
+    use super::*;
+
+    #[test]
+    fn outputs_are_counted() {
+        let mut coverage = Coverage::default();
+        coverage.read_output(
+            b"address 0\nread 2 2 0 1\nread 1 0 8 1\nok\nfault 15 0 0 0 1\nrefused 5\nvalue 3\naddress 1\nerror 7\n",
+        );
+        assert_eq!(coverage.addresses, 2);
+        assert_eq!(coverage.lengths, BTreeMap::from([(0, 2), (2, 1)]));
+        assert_eq!(coverage.reads, BTreeMap::from([((1, 0), 1), ((2, 2), 1)]));
+        assert_eq!(coverage.faults, BTreeMap::from([(21, 1)]));
+        assert_eq!(coverage.refusals, BTreeMap::from([(5, 1)]));
+        assert_eq!(coverage.bad_lines, 1);
+    }
+
+    #[test]
+    fn a_list_at_the_very_end_is_counted() {
+        let mut coverage = Coverage::default();
+        coverage.read_output(b"address 0\nread 1 2 0 1\n");
+        assert_eq!(coverage.lengths, BTreeMap::from([(1, 1)]));
+    }
+
+    #[test]
+    fn nothing_reached_is_much_missing() {
+        let missing = Coverage::default().missing();
+        for needed in [
+            "refusal 4",
+            "a list of 15 reads",
+            "cause 23 delivered to M",
+            "the event word wfi",
+            "a bad line",
+        ] {
+            assert!(
+                missing.iter().any(|sentence| sentence == needed),
+                "{needed}"
+            );
+        }
+        assert!(missing.len() > 300);
+    }
+
+    #[test]
+    fn rules_are_each_named_once() {
+        let mut rules = reachable_rules();
+        let length = rules.len();
+        rules.sort();
+        rules.dedup();
+        assert_eq!(rules.len(), length);
+    }
+}

@@ -1,0 +1,161 @@
+//! A whole script from a seed.
+
+use std::path::Path;
+
+use crate::coverage::Coverage;
+use crate::program::Script;
+use crate::scenes::{bad, edges, journeys, refusals, registers, traps, walks};
+use crate::scribe::Scribe;
+
+/// The seed of a script: every script of a run has its own.
+fn script_seed(seed: u64, place: u64) -> u64 {
+    crate::rng::Rng::new(seed ^ place.wrapping_mul(0xd605_bbb5_8c8a_bbc9)).bits()
+}
+
+/// The script with this place in the run of this seed: at least `events` events, and half of the time a bad line at its end.
+/// With it comes what it reaches.
+pub fn script(seed: u64, place: u64, events: u64, folder: &Path) -> (Script, Coverage) {
+    let mut scribe = Scribe::new(script_seed(seed, place), folder.to_path_buf());
+    let mut sweep = Sweep::new(place);
+    sweep.systematic(&mut scribe);
+    while scribe.coverage.events < events {
+        scene(&mut scribe, &mut sweep);
+    }
+    if scribe.rng.chance(50) {
+        bad::end_badly(&mut scribe);
+    }
+    finished(scribe)
+}
+
+/// A small script that ends at a bad line.
+pub fn bad_script(seed: u64, place: u64, folder: &Path) -> (Script, Coverage) {
+    let mut scribe = Scribe::new(script_seed(!seed, place), folder.to_path_buf());
+    for _ in 0..scribe.rng.below(4) {
+        let line = scribe.rng.pick(&[
+            "wfi",
+            "image 1000 10",
+            "image 80000000 1000",
+            "hart 1 1 0",
+            "read 300",
+            "load 80000000 8",
+        ]);
+        scribe.line(line);
+        if scribe.rng.chance(20) {
+            let blank = scribe
+                .rng
+                .pick(&[&b""[..], b"  ", b"\t\r", b"# load 0 8", b"  #\xff"]);
+            scribe.lines.push(blank.to_vec());
+        }
+    }
+    bad::end_badly(&mut scribe);
+    finished(scribe)
+}
+
+/// The script that a scribe has written, and how it is given to the programs.
+fn finished(mut scribe: Scribe) -> (Script, Coverage) {
+    let script = Script {
+        last_newline: scribe.rng.chance(80),
+        through_input: scribe.rng.chance(25),
+        lines: scribe.lines,
+    };
+    (script, scribe.coverage)
+}
+
+/// How far the systematic scenes have come. Every script goes on where the one before it in the run stops.
+struct Sweep {
+    flip: u64,
+    number: u64,
+    register: u64,
+}
+
+impl Sweep {
+    fn new(place: u64) -> Sweep {
+        Sweep {
+            flip: place * 32 * 3,
+            number: place * 40 * 2,
+            register: place * 20 * 2,
+        }
+    }
+
+    /// The systematic scenes, a few in every script.
+    fn systematic(&mut self, scribe: &mut Scribe) {
+        for _ in 0..2 {
+            self.numbers(scribe);
+            self.registers(scribe);
+        }
+        for _ in 0..3 {
+            self.flips(scribe);
+        }
+    }
+
+    fn flips(&mut self, scribe: &mut Scribe) {
+        refusals::flips(scribe, self.flip);
+        self.flip += 32;
+    }
+
+    fn numbers(&mut self, scribe: &mut Scribe) {
+        registers::numbers_in_turn(scribe, self.number);
+        self.number += 40;
+    }
+
+    fn registers(&mut self, scribe: &mut Scribe) {
+        registers::registers_in_turn(scribe, self.register);
+        self.register += 20;
+    }
+}
+
+/// One scene. Half of all events are translations through tables.
+fn scene(scribe: &mut Scribe, sweep: &mut Sweep) {
+    match scribe.rng.below(100) {
+        0..=29 => walks::walks(scribe),
+        30..=44 => registers::accesses(scribe),
+        45..=49 => registers::write_rules(scribe),
+        50..=64 => traps::requests(scribe),
+        65..=76 => traps::instructions(scribe),
+        77..=82 => journeys::journey(scribe),
+        83..=88 => refusals::combinations(scribe),
+        89 => refusals::modes_and_pcs(scribe),
+        90 => refusals::mprv_everywhere(scribe),
+        91..=93 => refusals::fields(scribe),
+        94..=96 => edges::edges(scribe),
+        97 => edges::files(scribe),
+        98 if scribe.rng.chance(25) => edges::large_images(scribe),
+        _ => sweep.flips(scribe),
+    }
+}
+
+#[cfg(test)]
+mod tests {
+    use super::*;
+    use crate::program::{model, Folder, InProcess, Program, Status};
+
+    #[test]
+    fn the_same_seed_gives_the_same_script() {
+        let folder = Folder::new().unwrap();
+        let make = |seed, place| script(seed, place, 300, folder.path());
+        assert_eq!(make(1, 0), make(1, 0));
+        assert_ne!(make(1, 0), make(1, 1));
+        assert_ne!(make(1, 0), make(2, 0));
+    }
+
+    #[test]
+    fn scripts_end_as_they_are_made_to() {
+        let folder = Folder::new().unwrap();
+        let program = InProcess {
+            name: "the model",
+            perform: model,
+            folder: &folder,
+        };
+        let mut whole = 0;
+        for place in 0..20 {
+            let (script, _) = script(3, place, 200, folder.path());
+            let outcome = program.run(&script).unwrap();
+            let bad = String::from_utf8_lossy(&outcome.output).contains("error ");
+            assert_eq!(outcome.status, Status::Exit(i32::from(bad)));
+            whole += u32::from(!bad);
+            let (script, _) = bad_script(3, place, folder.path());
+            assert_eq!(program.run(&script).unwrap().status, Status::Exit(1));
+        }
+        assert!((3..18).contains(&whole), "{whole}");
+    }
+}

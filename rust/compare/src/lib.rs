@@ -1,0 +1,26 @@
+//! Compares two programs that run replay scripts, byte by byte, on generated scripts.
+//!
+//! | module | what it does |
+//! |---|---|
+//! | [`rng`] | random numbers from a seed |
+//! | [`scribe`] | a script under construction, performed by the second program's library as it grows |
+//! | [`tables`] | page tables of both stages, written by `put` lines |
+//! | [`scenes`] | the scenes that a script is made of |
+//! | [`generate`] | a whole script from a seed |
+//! | [`coverage`] | what the scripts and their answers reached, and what they must reach |
+//! | [`program`] | a program under comparison: a process, or a function in this process |
+//! | [`shrink`] | the smallest script that still shows a difference |
+//! | [`comparing`] | the comparison itself |
+
+#![forbid(unsafe_code)]
+#![warn(missing_docs)]
+
+pub mod comparing;
+pub mod coverage;
+pub mod generate;
+pub mod program;
+pub mod rng;
+pub mod scenes;
+pub mod scribe;
+pub mod shrink;
+pub mod tables;

@@ -1,0 +1,9 @@
+//! The scenes that a script is made of. Each sets up a hart (and an image where it needs one) and lets events happen.
+
+pub mod bad;
+pub mod edges;
+pub mod journeys;
+pub mod refusals;
+pub mod registers;
+pub mod traps;
+pub mod walks;

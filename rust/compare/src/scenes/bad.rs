@@ -1,0 +1,187 @@
+//! Bad lines: each ends the run with `error LINE` and exit status 1.
+
+use crate::scribe::Scribe;
+
+/// Lines that are bad whatever the image is.
+const ALWAYS_BAD: [&[u8]; 88] = [
+    b"nonsense",
+    b"Load 0 8",
+    b"LOAD 0 8",
+    b"Show",
+    b"load",
+    b"load 0",
+    b"load 0 8 0",
+    b"load 0 8 x",
+    b"load g 8",
+    b"load 0x10 8",
+    b"load 10000000000000000 8",
+    b"load 00000000000000000 8",
+    b"load -1 8",
+    b"load +1 8",
+    b"load 1_0 8",
+    b"load 1.0 8",
+    b"load 0,8",
+    b"load \"0\" 8",
+    b"load 0 8;",
+    b"load# 0 8",
+    b"load 0#8",
+    b"fetch",
+    b"fetch 0",
+    b"fetch 0 4 4",
+    b"store 0",
+    b"store 0 8 1",
+    b"read",
+    b"read 300 0",
+    b"read #300",
+    b"read q",
+    b"write 300",
+    b"write 300 0 1",
+    b"set 300 0",
+    b"set 300 0 2",
+    b"set 300 0 10",
+    b"set 300 0 ffffffffffffffff",
+    b"set 300 0 1 1",
+    b"clear 300 0",
+    b"clear 300 0 2",
+    b"clear 300 0 100000001",
+    b"trap",
+    b"trap 0 0 0 0",
+    b"trap 0 0 0 0 2",
+    b"trap 0 0 0 0 0 0",
+    b"trap 0 0 0 0 x",
+    b"ecall 0",
+    b"ecall x",
+    b"ebreak 0",
+    b"mret 0",
+    b"sret 0",
+    b"wfi 0",
+    b"sfence.vma 0",
+    b"sfence.vma 0 0",
+    b"sfence",
+    b"sfence .vma",
+    b"hfence.vvma 0",
+    b"hfence.gvma 0",
+    b"hfence",
+    b"show 0",
+    b"show show",
+    b"image",
+    b"image 0",
+    b"image 0 0 0",
+    b"image 0 ffffffffffffffff",
+    b"image 0 1000000000000000",
+    b"hart",
+    b"hart 0 0",
+    b"hart 0 0 0 0",
+    b"hart 0 0 q",
+    b"reg",
+    b"reg 300",
+    b"reg 300 0 0",
+    b"reg 100 0",
+    b"reg e12 0",
+    b"reg 0 0",
+    b"reg fff 0",
+    b"reg 1300 0",
+    b"reg ffffffffffffffff 0",
+    b"put 0",
+    b"put 0 0 0",
+    b"put ffffffffffffffff 0",
+    b"file",
+    b"file 0",
+    b"file 0 \t\r",
+    b"file x table.bin",
+    b"file 0# table.bin",
+    b"file 0 no such file",
+    b"file 0 sub",
+];
+
+/// Lines with bytes that are no text.
+const BYTES: [&[u8]; 8] = [
+    b"\xff\xfe",
+    b"\x00",
+    b"load 0\x00 8",
+    b"load\x0b0 8",
+    b"load\x0c0 8",
+    b"load \xd9\xa0 8",
+    b"\xef\xbb\xbfshow",
+    b"load\xc2\xa00 8",
+];
+
+/// Ends a script with a bad line and some lines after it, which must not be answered.
+pub fn end_badly(scribe: &mut Scribe) {
+    let line = match scribe.rng.below(10) {
+        0 => scribe.rng.pick(&BYTES).to_vec(),
+        1 | 2 => put_outside(scribe),
+        3 => random_bytes(scribe),
+        _ => scribe.rng.pick(&ALWAYS_BAD).to_vec(),
+    };
+    scribe.lines.push(line);
+    for line in [&b"show"[..], b"load 0 8", b"nonsense"] {
+        if scribe.rng.chance(50) {
+            scribe.lines.push(line.to_vec());
+        }
+    }
+}
+
+/// A `put` whose eight bytes do not all lie in the image.
+fn put_outside(scribe: &mut Scribe) -> Vec<u8> {
+    let base = scribe.session.image.base;
+    let end = base.wrapping_add(scribe.session.image.bytes.len() as u64);
+    let address = match scribe.rng.below(3) {
+        0 => end.wrapping_sub(scribe.rng.below(8)),
+        1 => end.wrapping_add(scribe.rng.below(16)),
+        _ => base.wrapping_sub(1 + scribe.rng.below(16)),
+    };
+    if scribe
+        .session
+        .image
+        .holds(second::address::Machine(address), 8)
+    {
+        return b"put ffffffffffffffff 0".to_vec();
+    }
+    format!("put {address:x} 0").into_bytes()
+}
+
+/// Random bytes that cannot be a good line: they begin with no word.
+fn random_bytes(scribe: &mut Scribe) -> Vec<u8> {
+    let mut line = vec![b'?'];
+    for _ in 0..scribe.rng.below(40) {
+        let byte = scribe.rng.bits() as u8;
+        if byte != b'\n' {
+            line.push(byte);
+        }
+    }
+    line
+}
+
+#[cfg(test)]
+mod tests {
+    use super::*;
+    use crate::program::Folder;
+    use second::script::run_line;
+
+    #[test]
+    fn bad_lines_are_bad() {
+        let folder = Folder::new().unwrap();
+        for line in ALWAYS_BAD.iter().chain(&BYTES) {
+            let mut scribe = Scribe::new(1, folder.path().to_path_buf());
+            let text = line.escape_ascii().to_string();
+            assert!(run_line(&mut scribe.session, line).is_err(), "{text}");
+        }
+    }
+
+    #[test]
+    fn puts_outside_are_outside() {
+        let folder = Folder::new().unwrap();
+        for seed in 0..200 {
+            let mut scribe = Scribe::new(seed, folder.path().to_path_buf());
+            let image = scribe
+                .rng
+                .pick(&["image 1000 10", "image 0 0", "image 0 1000"]);
+            scribe.line(image);
+            let line = put_outside(&mut scribe);
+            assert!(run_line(&mut scribe.session, &line).is_err());
+            let line = random_bytes(&mut scribe);
+            assert!(run_line(&mut scribe.session, &line).is_err());
+        }
+    }
+}

@@ -1,0 +1,124 @@
+//! Images of odd length and base, accesses at the image's edge and around 2^56 and 2^64, large images, images from files.
+
+use second::hart::Mode;
+
+use crate::program::FILES;
+use crate::scribe::Scribe;
+
+/// Accesses around the edges of an image.
+pub fn edges(scribe: &mut Scribe) {
+    let base = choose_base(scribe);
+    let length = choose_length(scribe);
+    scribe.line(&format!("image {base:x} {length:x}"));
+    let mode = scribe.mode();
+    scribe.hart(mode, 0);
+    if scribe.rng.chance(20) {
+        // MODE 0 is Bare, whatever is below.
+        scribe.reg(second::registers::SATP, 0x0fff_ffff_ffff_ffff);
+        scribe.reg(second::registers::VSATP, 0x0fff_ffff_ffff_ffff);
+        scribe.reg(second::registers::HGATP, 0x03ff_ffff_ffff_fffc);
+    }
+    for _ in 0..12 {
+        let edge = scribe.rng.pick(&[
+            base,
+            base.wrapping_add(length),
+            base.wrapping_add(length),
+            1 << 56,
+            0,
+        ]);
+        let near = edge.wrapping_add(scribe.rng.below(20)).wrapping_sub(12);
+        access(scribe, near);
+    }
+}
+
+fn access(scribe: &mut Scribe, near: u64) {
+    let width = scribe.rng.pick(&[1, 2, 4, 8]);
+    let aligned = if scribe.rng.chance(80) {
+        near & !(width - 1)
+    } else {
+        near
+    };
+    let text = match scribe.rng.below(3) {
+        0 => format!("fetch {:x} 4", near & !3),
+        1 => format!("load {aligned:x} {width:x}"),
+        _ => format!("store {aligned:x} {width:x}"),
+    };
+    scribe.line(&text);
+}
+
+fn choose_base(scribe: &mut Scribe) -> u64 {
+    let limit = 1u64 << 56;
+    match scribe.rng.below(12) {
+        0 => 0,
+        1 => 0x1000,
+        2 => limit - 0x1000,
+        3 => limit - 0x2000,
+        4 => limit,
+        5 => limit + 0x1000,
+        6 => u64::MAX - 0xfff,
+        7 => 1 << 63,
+        8 => scribe.rng.number(),
+        9 => scribe.rng.bits() & 0xff_ffff_ffff_f000,
+        10 => 0x8000_0000 + scribe.rng.below(0x2000),
+        _ => 0x8000_0000,
+    }
+}
+
+fn choose_length(scribe: &mut Scribe) -> u64 {
+    match scribe.rng.below(8) {
+        0 => 0,
+        1 => scribe.rng.below(0x3000),
+        2 => 0x2000,
+        3 => 0x1001,
+        4 => 0xfff,
+        5 => 0x1_0000,
+        _ => 0x1000,
+    }
+}
+
+/// The largest image that is taken, the smallest that is too large, and one of 128 MiB.
+pub fn large_images(scribe: &mut Scribe) {
+    let length = scribe
+        .rng
+        .pick(&[0x400_0000, 0x400_1000, 0x3ff_f000, 0x800_0000, 0x400_0008]);
+    let base = scribe.rng.pick(&[0, 0x8000_0000, (1 << 56) - 0x400_0000]);
+    scribe.line(&format!("image {base:x} {length:x}"));
+    scribe.put(base + length - 8, 0xdf);
+    scribe.hart(Mode::M, 0);
+    for _ in 0..4 {
+        let near = (base + length)
+            .wrapping_add(scribe.rng.below(16))
+            .wrapping_sub(8);
+        access(scribe, near);
+    }
+    // Leave a small one behind.
+    scribe.line("image 0 0");
+}
+
+/// Images from files.
+pub fn files(scribe: &mut Scribe) {
+    let name = scribe.rng.pick(&FILES);
+    let base = scribe.rng.pick(&[
+        0x8000_0000,
+        0x8000_0000,
+        0,
+        0x8000_0008,
+        0xff_ffff_ffff_c000,
+    ]);
+    scribe.line(&format!("file {base:x} {name}"));
+    let mode = scribe.rng.pick(&[Mode::Vs, Mode::Vu, Mode::M]);
+    scribe.hart(mode, 0);
+    scribe.reg(second::registers::HGATP, 0x8000_0000_0008_0000);
+    for _ in 0..8 {
+        let address = match scribe.rng.below(3) {
+            0 => base + scribe.rng.below(0x5000),
+            _ => scribe.rng.bits() & 0x1ff_ffff_fff8,
+        };
+        access(scribe, address);
+    }
+    if scribe.session.image.bytes.len() >= 16 {
+        let value = scribe.rng.bits();
+        scribe.put(base + 8, value);
+        access(scribe, base + 8);
+    }
+}

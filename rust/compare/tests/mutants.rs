@@ -1,0 +1,271 @@
+//! Altered copies of the second program's source, one small change each, compiled and compared with the unaltered library:
+//! every one must be caught within a full run. This takes minutes, so it runs only when asked for:
+//!
+//! `cargo test --release -p compare --test mutants -- --ignored --nocapture`
+
+use std::ffi::OsString;
+use std::path::{Path, PathBuf};
+use std::process::Command;
+
+use compare::comparing::{compare, Failure, Options, FULL_RUN};
+use compare::program::{model, Folder, InProcess, Process};
+
+/// A change: the file, the text that is there once, and the text that takes its place.
+struct Mutant(&'static str, &'static str, &'static str);
+
+const MUTANTS: &[Mutant] = &[
+    // registers.rs
+    Mutant("registers.rs", "const HEDELEG_STORED: u64 = 0xb1ff", "const HEDELEG_STORED: u64 = 0xb3ff"),
+    Mutant("registers.rs", "const MEDELEG_STORED: u64 = 0xf0_b7ff", "const MEDELEG_STORED: u64 = 0xf0_bfff"),
+    Mutant("registers.rs", "const TVEC_STORED: u64 = !0b10", "const TVEC_STORED: u64 = !0b11"),
+    Mutant("registers.rs", "const EPC_STORED: u64 = !0b11", "const EPC_STORED: u64 = !0b1"),
+    Mutant("registers.rs", "0xf3ff_ffff_ffff_fffc", "0xf3ff_ffff_ffff_ffff"),
+    Mutant("registers.rs", "if mpp(value) == 2 {", "if mpp(value) == 4 {"),
+    Mutant("registers.rs", "with_mpp(written, mpp(old))", "with_mpp(written, 0)"),
+    Mutant("registers.rs", "MSTATUS => mpp(value) != 2", "MSTATUS => true"),
+    Mutant("registers.rs", "SATP | VSATP | HGATP => mode_is_allowed(value)", "SATP | HGATP => mode_is_allowed(value)"),
+    Mutant("registers.rs", "atp_mode(old))\n", "0)\n"),
+    Mutant("registers.rs", "SATP | VSATP => atp_after_write(old, value)", "SATP => atp_after_write(old, value)"),
+    Mutant("registers.rs", "field(atp, 0, 44)", "field(atp, 0, 43)"),
+    Mutant("registers.rs", "| (1 << HU)\n", "\n"),
+    // hart.rs
+    Mutant("hart.rs", "self.pc.is_multiple_of(4)", "self.pc.is_multiple_of(2)"),
+    Mutant("hart.rs", "(mode == Mode::M || !bit(self.mstatus, MPRV))", "(mode == Mode::M || mode == Mode::Hs || !bit(self.mstatus, MPRV))"),
+    Mutant("hart.rs", "(1, 1) => Some(Mode::Vs),", "(1, 1) | (1, 3) => Some(Mode::Vs),"),
+    Mutant("hart.rs", "self.pc.wrapping_add(4)", "self.pc.saturating_add(4)"),
+    Mutant("hart.rs", "            _ => Mode::M,\n", "            _ if mpv => Mode::Vs,\n            _ => Mode::M,\n"),
+    // trap.rs
+    Mutant("trap.rs", "0..=13 | 15 | 20..=23", "0..=15 | 20..=23"),
+    Mutant("trap.rs", "8 => mode != Mode::U && mode != Mode::Vu", "8 => mode != Mode::U"),
+    Mutant("trap.rs", "10 => mode != Mode::Vs", "10 => !mode.v()"),
+    Mutant("trap.rs", "trap.cause == VIRTUAL_INSTRUCTION && !mode.v()", "trap.cause == VIRTUAL_INSTRUCTION && mode == Mode::M"),
+    Mutant("trap.rs", "matches!(trap.cause, 8..=11) && trap.value != 0", "matches!(trap.cause, 8..=10) && trap.value != 0"),
+    Mutant("trap.rs", "(trap.second != 0 || trap.word != 0)", "(trap.second != 0)"),
+    Mutant("trap.rs", "2 | 8..=11 | 22 => trap.flag,", "2 | 8..=11 => trap.flag,\n        22 => false,"),
+    Mutant("trap.rs", "20 | 21 | 23 => !trap.flag,", "20 | 21 | 23 => mode.v() && !trap.flag,"),
+    Mutant("trap.rs", "_ => mode.v() && !trap.flag,", "_ => mode.v() != trap.flag,"),
+    Mutant("trap.rs", "if mode == Mode::M || !delegates(hart.medeleg, cause)", "if !delegates(hart.medeleg, cause)"),
+    Mutant("trap.rs", "mode.v() && delegates(hart.hedeleg, cause)", "delegates(hart.hedeleg, cause)"),
+    Mutant("trap.rs", "tvec & !0b11", "tvec"),
+    Mutant("trap.rs", "    if mode.v() {\n        after.hstatus = with_bit(after.hstatus, SPVP", "    if true {\n        after.hstatus = with_bit(after.hstatus, SPVP"),
+    Mutant("trap.rs", "with_bit(after.mstatus, MPV, mode.v())", "with_bit(after.mstatus, MPV, trap.flag)"),
+    Mutant("trap.rs", "after.mstatus = with_bit(after.mstatus, MPIE, bit(hart.mstatus, MIE));", ""),
+    Mutant("trap.rs", "after.hstatus = with_bit(after.hstatus, HSTATUS_GVA, trap.flag);", "after.hstatus = with_bit(after.hstatus, HSTATUS_GVA, mode.v());"),
+    Mutant("trap.rs", "    after.htval = trap.second;\n", ""),
+    Mutant("trap.rs", "    after.mtinst = trap.word;\n", ""),
+    Mutant("trap.rs", "after.vsstatus = with_bit(after.vsstatus, SIE, false);", ""),
+    Mutant("trap.rs", "after.pc = entry_point(hart.vstvec);", "after.pc = entry_point(hart.stvec);"),
+    // calls.rs
+    Mutant("calls.rs", "Mode::U | Mode::Vu => 8,\n        Mode::Hs => 9,", "Mode::U => 8,\n        Mode::Hs | Mode::Vu => 9,"),
+    Mutant("calls.rs", "flag: mode.v(),", "flag: false,"),
+    Mutant("calls.rs", "value: hart.pc,", "value: 0,"),
+    // returns.rs
+    Mutant("returns.rs", "if mpp(old) != 3 {", "if mpp(old) == 0 {"),
+    Mutant("returns.rs", "    after.mstatus = with_bit(after.mstatus, MPV, false);\n", ""),
+    Mutant("returns.rs", "    after.hstatus = with_bit(after.hstatus, SPV, false);\n", ""),
+    Mutant("returns.rs", "after.mstatus = with_bit(after.mstatus, MPRV, false);\n    after.in_mode(Mode::below", "after.in_mode(Mode::below"),
+    Mutant("returns.rs", "Mode::Vs if bit(hart.hstatus, VTSR)", "Mode::Vs if bit(hart.mstatus, TSR)"),
+    Mutant("returns.rs", "Mode::Hs if bit(hart.mstatus, TSR)", "Mode::Hs | Mode::M if bit(hart.mstatus, TSR)"),
+    Mutant("returns.rs", "after.pc = hart.vsepc;", "after.pc = hart.sepc;"),
+    Mutant("returns.rs", "after.vsstatus = with_bit(after.vsstatus, SPIE, true);", ""),
+    // access.rs
+    Mutant("access.rs", "if number > 4095 {", "if number > 4096 {"),
+    Mutant("access.rs", "if row.read_only && writes {", "if row.read_only && writes && !mode.v() {"),
+    Mutant("access.rs", "row.number == SATP || row.number == HGATP;", "row.number == SATP;"),
+    Mutant("access.rs", "Level::S if row.number == SATP && bit(hart.hstatus, VTVM)", "Level::S if row.number == SATP && bit(hart.mstatus, TVM)"),
+    Mutant("access.rs", "Level::S => vs_register_of(row).ok_or(ILLEGAL_INSTRUCTION)", "Level::S => Ok(row)"),
+    Mutant("access.rs", "Action::Set { writes, .. } | Action::Clear { writes, .. } => writes,", "Action::Set { writes, value } | Action::Clear { writes, value } => writes && value != 0,"),
+    Mutant("access.rs", "after_write(row, old, action.combined(old))", "after_write(row, old, match action { Action::Set { value, .. } if row.number == SATP => value, other => other.combined(old) })"),
+    Mutant("access.rs", "            hart: after.moved_on(),", "            hart: if action.writes() && after_write(row, old, action.combined(old)) == old { *hart } else { after.moved_on() },"),
+    Mutant("access.rs", "Mode::U => Err(ILLEGAL_INSTRUCTION),", "Mode::U => Err(VIRTUAL_INSTRUCTION),"),
+    Mutant("access.rs", "(hart.mstatus & !row.stored) | (new & row.stored)", "(hart.mstatus & !row.stored) | (new & row.stored & !(1 << 19))"),
+    // waits.rs
+    Mutant("waits.rs", "    if mode == Mode::M {\n        return None;\n    }\n", ""),
+    Mutant("waits.rs", "Mode::Vs if bit(hart.hstatus, VTW)", "Mode::Vs if bit(hart.hstatus, VTVM)"),
+    Mutant("waits.rs", "    if bit(hart.mstatus, TW) {", "    if bit(hart.mstatus, TW) && !mode.v() {"),
+    Mutant("waits.rs", "Mode::Vs if bit(hart.hstatus, VTVM) => Some(VIRTUAL_INSTRUCTION),", "Mode::Vs if bit(hart.hstatus, VTVM) => Some(ILLEGAL_INSTRUCTION),"),
+    Mutant("waits.rs", "        Mode::Hs if bit(hart.mstatus, TVM) => Some(ILLEGAL_INSTRUCTION),\n        _ => hfence", "        _ => hfence"),
+    // image.rs
+    Mutant("image.rs", "length > LARGEST", "length >= LARGEST"),
+    Mutant("image.rs", "base + length > END_LIMIT", "base + length >= END_LIMIT"),
+    Mutant("image.rs", "|| !length.is_multiple_of(PAGE)", ""),
+    Mutant("image.rs", "first >= base && first", "first + 8 >= base && first"),
+    // walk.rs
+    Mutant("walk.rs", "!matches!(self.width, 1 | 2 | 4 | 8)", "!matches!(self.width, 1 | 2 | 4 | 8 | 16)"),
+    Mutant("walk.rs", "(self.width != 4 || !self.address.is_multiple_of(4))", "(self.width != 4 || !self.address.is_multiple_of(2))"),
+    Mutant("walk.rs", "bit(hart.mstatus, MPRV) && kind != Kind::Fetch", "bit(hart.mstatus, MPRV)"),
+    Mutant("walk.rs", "let high = field(address, 38, 26);\n    high == 0 || high == low_ones(26)", "let high = field(address, 39, 25);\n    high == 0 || high == low_ones(25)"),
+    Mutant("walk.rs", "field(address.0, 41, 23) == 0", "field(address.0, 39, 25) == 0"),
+    Mutant("walk.rs", "field(address.0, 41, 23) == 0", "field(address.0, 41, 15) == 0"),
+    Mutant("walk.rs", "let width = if level == TOP_LEVEL { 11 } else { 9 };", "let width = 9;"),
+    Mutant("walk.rs", "bit(entry, PTE_W) && !bit(entry, PTE_R)", "bit(entry, PTE_W) && !bit(entry, PTE_R) && !bit(entry, PTE_X)"),
+    Mutant("walk.rs", "field(entry, 54, 10) != 0", "field(entry, 55, 9) != 0"),
+    Mutant("walk.rs", "field(entry, 54, 10) != 0", "field(entry, 54, 9) != 0"),
+    Mutant("walk.rs", "    if bit(entry, PTE_U) {\n        return Err(Rule::PointerWithU);\n    }\n", ""),
+    Mutant("walk.rs", "    if bit(entry, PTE_D) {\n        return Err(Rule::PointerWithD);\n    }\n", ""),
+    Mutant("walk.rs", "    if bit(entry, PTE_A) {\n        return Err(Rule::PointerWithA);\n    }\n", ""),
+    Mutant("walk.rs", "low_ones(offset_bits(level) - 12)", "low_ones(9)"),
+    Mutant("walk.rs", "low_ones(offset_bits(level) - 12)", "0"),
+    Mutant("walk.rs", "low_ones(offset_bits(level) - 12)", "low_ones((offset_bits(level) - 12).min(9))"),
+    Mutant("walk.rs", "let from_address = low_ones(offset_bits(level));", "let from_address = low_ones(12);"),
+    Mutant("walk.rs", "is_store && !bit(entry, PTE_D)", "!bit(entry, PTE_D)"),
+    Mutant("walk.rs", "accessed_and_dirty(entry, kind == Kind::Store)?;", "accessed_and_dirty(entry, self.access.kind == Kind::Store)?;"),
+    Mutant("walk.rs", "Kind::Store if !bit(entry, PTE_W)", "Kind::Store if !bit(entry, PTE_D)"),
+    Mutant("walk.rs", "Purpose::GuestEntry => (Kind::Load, false),", "Purpose::GuestEntry => (Kind::Load, bit(self.hart.mstatus, MXR)),"),
+    Mutant("walk.rs", "Purpose::GuestEntry => (Kind::Load, false),", "Purpose::GuestEntry => (self.access.kind, false),"),
+    Mutant("walk.rs", "Purpose::Access => (self.access.kind, bit(self.hart.mstatus, MXR)),", "Purpose::Access => (self.access.kind, self.first_stage_mxr()),"),
+    Mutant("walk.rs", "Purpose::Access => (self.access.kind, bit(self.hart.mstatus, MXR)),", "Purpose::Access => (self.access.kind, false),"),
+    Mutant("walk.rs", "guest || bit(self.hart.mstatus, MXR)", "if self.mode.v() { guest } else { bit(self.hart.mstatus, MXR) }"),
+    Mutant("walk.rs", "let guest = self.mode.v() && bit(self.hart.vsstatus, MXR);", "let guest = bit(self.hart.vsstatus, MXR);"),
+    Mutant("walk.rs", "bit(self.hart.vsstatus, SUM)", "bit(self.hart.mstatus, SUM)"),
+    Mutant("walk.rs", "            if self.access.kind == Kind::Fetch {\n                return Err(Rule::SupervisorFetch);\n            }\n", ""),
+    Mutant("walk.rs", "            if !bit(entry, PTE_U) {\n                return Err(Rule::NotUser);\n            }\n", ""),
+    Mutant("walk.rs", "            if !bit(entry, PTE_U) {\n                return Err(Rule::NotUser);\n            }\n", "            if purpose == Purpose::Access && !bit(entry, PTE_U) {\n                return Err(Rule::NotUser);\n            }\n"),
+    Mutant("walk.rs", "if !supervisor && !user_page {", "if !supervisor && !user_page && self.access.kind != Kind::Fetch {"),
+    Mutant("walk.rs", "self.fault(21, second, 0x3000, why)", "self.fault(self.access.kind.guest_page_fault(), second, 0x3000, why)"),
+    Mutant("walk.rs", "self.fault(21, second, 0x3000, why)", "self.fault(21, second, 0x3020, why)"),
+    Mutant("walk.rs", "let second = guest.0 >> 2;", "let second = (guest.0 & 0xff_ffff_ffff_ffff) >> 2;"),
+    Mutant("walk.rs", "flag: self.mode.v(),", "flag: self.hart.v == 1,"),
+    Mutant("walk.rs", "self.alignment()?;\n        let machine", "let machine"),
+    Mutant("walk.rs", "Mode::U | Mode::Hs => Machine(self.first_stage(self.hart.satp)?)", "Mode::U | Mode::Hs => Machine(self.first_stage(self.hart.vsatp)?)"),
+    Mutant("walk.rs", "if atp_mode(hgatp) == BARE {", "if hgatp == 0 {"),
+    Mutant("walk.rs", "if atp_mode(atp) == BARE {", "if atp == 0 {"),
+    Mutant("walk.rs", "return refused(1);", "return refused(3);"),
+    Mutant("walk.rs", "field(entry, 10, 44)", "field(entry, 10, 43)"),
+    Mutant("walk.rs", "    if image.is_refused() {\n        return refused(1);\n    }\n    if access.is_refused() {\n        return refused(3);\n    }\n", "    if access.is_refused() {\n        return refused(3);\n    }\n    if image.is_refused() {\n        return refused(1);\n    }\n"),
+    Mutant("walk.rs", "return Err(self.access_fault(why));\n        };", "self.list.push(Read { stage, level, address: address.0, value: 0 });\n            return Err(self.access_fault(why));\n        };"),
+    // script.rs
+    Mutant("script.rs", "word.len() > 16", "word.len() > 17"),
+    Mutant("script.rs", "matches!(byte, b' ' | b'\\t' | b'\\r')", "matches!(byte, b' ' | b'\\t')"),
+    Mutant("script.rs", "is_blank(*byte) || *byte == b'#')", "is_blank(*byte))"),
+    Mutant("script.rs", "        1 => Ok(true),", "        1 | 2 => Ok(true),"),
+    // More of each.
+    Mutant("registers.rs", "SATP | VSATP | HGATP => mode_is_allowed(value)", "SATP | VSATP => mode_is_allowed(value)"),
+    Mutant("hart.rs", "Some(content) => could_be_stored(row, content),", "Some(content) => row.number == registers::MTVEC || could_be_stored(row, content),"),
+    Mutant("hart.rs", "Some(content) => could_be_stored(row, content),", "Some(content) => row.number == registers::VSEPC || could_be_stored(row, content),"),
+    Mutant("hart.rs", "Some(content) => could_be_stored(row, content),", "Some(content) => row.number == registers::HEDELEG || could_be_stored(row, content),"),
+    Mutant("hart.rs", "Some(content) => could_be_stored(row, content),", "Some(content) => could_be_stored(row, content & !(1 << 63)),"),
+    Mutant("trap.rs", "after.mepc = hart.pc;", "after.mepc = hart.pc.wrapping_add(4);"),
+    Mutant("trap.rs", "    after.mtval2 = trap.second;\n", ""),
+    Mutant("trap.rs", "after.in_mode(Mode::Vs)", "after"),
+    Mutant("trap.rs", "    after.mstatus = with_bit(after.mstatus, SPP, from_supervisor);\n", ""),
+    Mutant("trap.rs", "with_bit(after.hstatus, SPV, mode.v())", "with_bit(after.hstatus, SPV, trap.flag)"),
+    Mutant("trap.rs", "after.hstatus = with_bit(after.hstatus, SPVP, from_supervisor);", "after.hstatus = with_bit(after.hstatus, SPVP, true);"),
+    Mutant("returns.rs", "    after.mstatus = with_bit(after.mstatus, MPIE, true);\n", ""),
+    Mutant("returns.rs", "    after.mstatus = with_mpp(after.mstatus, 0);\n", ""),
+    Mutant("returns.rs", "after.in_mode(Mode::below_machine(true, bit(hart.vsstatus, SPP)))", "after.in_mode(Mode::below_machine(true, bit(hart.mstatus, SPP)))"),
+    Mutant("returns.rs", "Mode::Vu => Some(VIRTUAL_INSTRUCTION),", "Mode::Vu => Some(ILLEGAL_INSTRUCTION),"),
+    Mutant("access.rs", "old & !value", "old & value"),
+    Mutant("access.rs", "ok_or(ILLEGAL_INSTRUCTION),\n        Level::Vs | Level::H => Err(VIRTUAL_INSTRUCTION),", "ok_or(ILLEGAL_INSTRUCTION),\n        Level::Vs | Level::H => Err(ILLEGAL_INSTRUCTION),"),
+    Mutant("access.rs", "Level::M => Err(ILLEGAL_INSTRUCTION),\n        Level::S | Level::Vs", "Level::M => Err(VIRTUAL_INSTRUCTION),\n        Level::S | Level::Vs"),
+    Mutant("access.rs", "row.level == Level::M || (trapped", "(trapped"),
+    Mutant("access.rs", "(hart.mstatus & row.stored) | row.constant", "hart.mstatus & row.stored"),
+    Mutant("walk.rs", "self.second_stage(GuestPhysical(place), Purpose::GuestEntry)", "self.second_stage(GuestPhysical(place), Purpose::Access)"),
+    Mutant("walk.rs", "self.second_stage(GuestPhysical(place), Purpose::GuestEntry)", "Ok(Machine(place))"),
+    Mutant("walk.rs", "Kind::Store => 6,", "Kind::Store => 7,"),
+    Mutant("walk.rs", "let guest = GuestPhysical(self.first_stage(self.hart.vsatp)?);", "let guest = GuestPhysical(self.first_stage(self.hart.satp)?);"),
+    Mutant("walk.rs", "let supervisor = self.mode.privilege() == 1;", "let supervisor = self.hart.privilege == 1;"),
+    Mutant("walk.rs", "!self.address.is_multiple_of(self.width)", "!self.address.is_multiple_of(self.width.min(4))"),
+    Mutant("walk.rs", "let second = guest.0 >> 2;", "let second = (guest.0 & !0xfff) >> 2;"),
+    Mutant("walk.rs", "let second = guest.0 >> 2;", "let second = if purpose == Purpose::GuestEntry { self.access.address >> 2 } else { guest.0 >> 2 };"),
+    Mutant("walk.rs", "value: self.access.address,", "value: self.access.address & low_ones(56),"),
+    Mutant("walk.rs", "field(address, offset_bits(level), 9)", "field(address, offset_bits(level), if level == TOP_LEVEL { 11 } else { 9 })"),
+    Mutant("walk.rs", "const TOP_LEVEL: u64 = 2;", "const TOP_LEVEL: u64 = 1;"),
+    Mutant("image.rs", "u64::from_le_bytes(bytes)", "u64::from_be_bytes(bytes)"),
+    Mutant("script.rs", "Some(byte) if is_blank(*byte) => trimmed(after),", "Some(byte) if is_blank(*byte) => next_word(after).0,"),
+    Mutant("script.rs", "buffer.strip_suffix(b\"\\n\").unwrap_or(&buffer)", "match buffer.strip_suffix(b\"\\n\") { Some(line) => line, None => continue }"),
+];
+
+fn source() -> PathBuf {
+    Path::new(env!("CARGO_MANIFEST_DIR")).join("../second/src")
+}
+
+/// The text of a mutant's file with its change. The tests at the file's end stay as they are.
+fn changed_text(mutant: &Mutant) -> String {
+    let Mutant(file, from, to) = mutant;
+    let text = std::fs::read_to_string(source().join(file)).unwrap();
+    let end = text.find("#[cfg(test)]").unwrap_or(text.len());
+    let (code, tests) = text.split_at(end);
+    let count = code.matches(from).count();
+    assert_eq!(count, 1, "{file}: {from:?} is there once");
+    format!("{}{tests}", code.replace(from, to))
+}
+
+#[test]
+fn every_mutant_still_fits_the_source() {
+    for mutant in MUTANTS {
+        changed_text(mutant);
+    }
+}
+
+/// Compiles the second program with one change; the program's path.
+fn build(mutant: &Mutant, folder: &Path) -> OsString {
+    let _ = std::fs::remove_dir_all(folder);
+    std::fs::create_dir_all(folder).unwrap();
+    for entry in std::fs::read_dir(source()).unwrap() {
+        let path = entry.unwrap().path();
+        std::fs::copy(&path, folder.join(path.file_name().unwrap())).unwrap();
+    }
+    let Mutant(file, from, to) = mutant;
+    std::fs::write(folder.join(file), changed_text(mutant)).unwrap();
+    let rustc = std::env::var_os("RUSTC").unwrap_or_else(|| OsString::from("rustc"));
+    let compile = |arguments: &[&str]| {
+        let status = Command::new(&rustc)
+            .current_dir(folder)
+            .args([
+                "--edition",
+                "2021",
+                "--cap-lints",
+                "allow",
+                "-C",
+                "opt-level=1",
+            ])
+            .args(arguments)
+            .status()
+            .unwrap();
+        assert!(status.success(), "{file}: {from:?} compiles as {to:?}");
+    };
+    compile(&["--crate-name", "second", "--crate-type", "rlib", "lib.rs"]);
+    compile(&[
+        "--crate-name",
+        "mutant",
+        "--extern",
+        "second=libsecond.rlib",
+        "main.rs",
+    ]);
+    folder.join("mutant").into_os_string()
+}
+
+#[test]
+#[ignore = "takes minutes"]
+fn every_mutant_is_caught() {
+    let folder = Folder::new().unwrap();
+    let mut missed = Vec::new();
+    for (place, mutant) in MUTANTS.iter().enumerate() {
+        let program = build(mutant, &folder.path().join("mutant"));
+        let first = Process::new(&program, &folder).unwrap();
+        let second = InProcess {
+            name: "the library",
+            perform: model,
+            folder: &folder,
+        };
+        let options = Options {
+            events: FULL_RUN,
+            seed: 1000 + place as u64,
+        };
+        let Mutant(file, from, to) = mutant;
+        match compare(&first, &second, &options, folder.path()) {
+            Err(Failure::Different(difference)) => println!(
+                "{file}: {from:?} -> {to:?}: script {}, {} lines",
+                difference.place,
+                difference.script.lines.len()
+            ),
+            Err(Failure::NotRun(name, error)) => panic!("{name}: {error}"),
+            Ok(_) => {
+                println!("{file}: {from:?} -> {to:?}: MISSED");
+                missed.push(format!("{file}: {from:?} -> {to:?}"));
+            }
+        }
+    }
+    assert!(missed.is_empty(), "{missed:#?}");
+}

@@ -1,0 +1,39 @@
+//! The independent second program: the base model of document 01 written a second time, from the paper alone, so that the
+//! two programs can be compared byte by byte.
+//!
+//! One module for each subject, in the paper's order:
+//!
+//! | module | part of document 01 |
+//! |---|---|
+//! | [`bits`] | single bits and fields of a 64-bit number |
+//! | [`address`] | "Guest physical and machine addresses are kept as two kinds of number" |
+//! | [`registers`] | "Twenty-nine registers": the table, the stored bits, the write rules |
+//! | [`hart`] | the five modes, the hart, refusal 2 |
+//! | [`trap`] | refusal 4 and "Delivery" |
+//! | [`calls`] | environment calls and the breakpoint |
+//! | [`returns`] | MRET and SRET |
+//! | [`access`] | "Access": read, write, set and clear of a register, refusal 5 |
+//! | [`waits`] | WFI and the fences |
+//! | [`image`] | the image and refusal 1 |
+//! | [`walk`] | "The walk": translation of a fetch, load or store, refusal 3 |
+//! | [`script`] | the replay script language |
+//!
+//! Every event is a function from a hart (and what else it is given) to a hart and an answer; nothing is kept between events.
+//! No input makes any of them panic: sums that can pass 2^64 are made in 128 bits, the program counter wraps by its rule, and
+//! the list of reads is filled by a bounded push.
+
+#![forbid(unsafe_code)]
+#![warn(missing_docs)]
+
+pub mod access;
+pub mod address;
+pub mod bits;
+pub mod calls;
+pub mod hart;
+pub mod image;
+pub mod registers;
+pub mod returns;
+pub mod script;
+pub mod trap;
+pub mod waits;
+pub mod walk;

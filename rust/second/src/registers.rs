@@ -1,0 +1,502 @@
+//! "Twenty-nine registers": their numbers, their stored bits and what a write stores.
+//!
+//! Twenty-seven of them are stored. sstatus is a view of mstatus, and hgeip is the constant 0.
+
+use crate::bits::{field, with_field};
+
+/// sstatus, a view of mstatus.
+pub const SSTATUS: u64 = 0x100;
+/// stvec.
+pub const STVEC: u64 = 0x105;
+/// sscratch.
+pub const SSCRATCH: u64 = 0x140;
+/// sepc.
+pub const SEPC: u64 = 0x141;
+/// scause.
+pub const SCAUSE: u64 = 0x142;
+/// stval.
+pub const STVAL: u64 = 0x143;
+/// satp.
+pub const SATP: u64 = 0x180;
+/// vsstatus.
+pub const VSSTATUS: u64 = 0x200;
+/// vstvec.
+pub const VSTVEC: u64 = 0x205;
+/// vsscratch.
+pub const VSSCRATCH: u64 = 0x240;
+/// vsepc.
+pub const VSEPC: u64 = 0x241;
+/// vscause.
+pub const VSCAUSE: u64 = 0x242;
+/// vstval.
+pub const VSTVAL: u64 = 0x243;
+/// vsatp.
+pub const VSATP: u64 = 0x280;
+/// mstatus.
+pub const MSTATUS: u64 = 0x300;
+/// medeleg.
+pub const MEDELEG: u64 = 0x302;
+/// mtvec.
+pub const MTVEC: u64 = 0x305;
+/// mscratch.
+pub const MSCRATCH: u64 = 0x340;
+/// mepc.
+pub const MEPC: u64 = 0x341;
+/// mcause.
+pub const MCAUSE: u64 = 0x342;
+/// mtval.
+pub const MTVAL: u64 = 0x343;
+/// mtinst.
+pub const MTINST: u64 = 0x34a;
+/// mtval2.
+pub const MTVAL2: u64 = 0x34b;
+/// hstatus.
+pub const HSTATUS: u64 = 0x600;
+/// hedeleg.
+pub const HEDELEG: u64 = 0x602;
+/// htval.
+pub const HTVAL: u64 = 0x643;
+/// htinst.
+pub const HTINST: u64 = 0x64a;
+/// hgatp.
+pub const HGATP: u64 = 0x680;
+/// hgeip, read-only, 0.
+pub const HGEIP: u64 = 0xe12;
+
+/// mstatus and vsstatus bit SIE.
+pub const SIE: u32 = 1;
+/// mstatus bit MIE.
+pub const MIE: u32 = 3;
+/// mstatus and vsstatus bit SPIE.
+pub const SPIE: u32 = 5;
+/// mstatus bit MPIE.
+pub const MPIE: u32 = 7;
+/// mstatus and vsstatus bit SPP.
+pub const SPP: u32 = 8;
+/// mstatus field MPP, bits 12:11: its low bit.
+pub const MPP_LOW: u32 = 11;
+/// mstatus field MPP: its width.
+pub const MPP_WIDTH: u32 = 2;
+/// mstatus bit MPRV.
+pub const MPRV: u32 = 17;
+/// mstatus and vsstatus bit SUM.
+pub const SUM: u32 = 18;
+/// mstatus and vsstatus bit MXR.
+pub const MXR: u32 = 19;
+/// mstatus bit TVM.
+pub const TVM: u32 = 20;
+/// mstatus bit TW.
+pub const TW: u32 = 21;
+/// mstatus bit TSR.
+pub const TSR: u32 = 22;
+/// mstatus bit GVA.
+pub const MSTATUS_GVA: u32 = 38;
+/// mstatus bit MPV.
+pub const MPV: u32 = 39;
+
+/// hstatus bit GVA.
+pub const HSTATUS_GVA: u32 = 6;
+/// hstatus bit SPV.
+pub const SPV: u32 = 7;
+/// hstatus bit SPVP.
+pub const SPVP: u32 = 8;
+/// hstatus bit HU.
+pub const HU: u32 = 9;
+/// hstatus bit VTVM.
+pub const VTVM: u32 = 20;
+/// hstatus bit VTW.
+pub const VTW: u32 = 21;
+/// hstatus bit VTSR.
+pub const VTSR: u32 = 22;
+
+/// The field UXL (mstatus, sstatus, vsstatus) or VSXL (hstatus), bits 33:32, holding 2.
+const UXL_IS_2: u64 = 2 << 32;
+/// The field SXL of mstatus, bits 35:34, holding 2.
+const SXL_IS_2: u64 = 2 << 34;
+
+/// The stored bits of mstatus: SIE, MIE, SPIE, MPIE, SPP, MPP, MPRV, SUM, MXR, TVM, TW, TSR, GVA, MPV.
+const MSTATUS_STORED: u64 = (1 << SIE)
+    | (1 << MIE)
+    | (1 << SPIE)
+    | (1 << MPIE)
+    | (1 << SPP)
+    | (3 << MPP_LOW)
+    | (1 << MPRV)
+    | (1 << SUM)
+    | (1 << MXR)
+    | (1 << TVM)
+    | (1 << TW)
+    | (1 << TSR)
+    | (1 << MSTATUS_GVA)
+    | (1 << MPV);
+/// The stored bits of sstatus and of vsstatus: SIE, SPIE, SPP, SUM, MXR.
+const SSTATUS_STORED: u64 = (1 << SIE) | (1 << SPIE) | (1 << SPP) | (1 << SUM) | (1 << MXR);
+/// The stored bits of hstatus: GVA, SPV, SPVP, HU, VTVM, VTW, VTSR.
+const HSTATUS_STORED: u64 = (1 << HSTATUS_GVA)
+    | (1 << SPV)
+    | (1 << SPVP)
+    | (1 << HU)
+    | (1 << VTVM)
+    | (1 << VTW)
+    | (1 << VTSR);
+/// The stored bits of hedeleg.
+const HEDELEG_STORED: u64 = 0xb1ff;
+/// The stored bits of medeleg.
+const MEDELEG_STORED: u64 = 0xf0_b7ff;
+/// "tvec: bit 1 cleared."
+const TVEC_STORED: u64 = !0b10;
+/// "epc: bits 1:0 cleared."
+const EPC_STORED: u64 = !0b11;
+/// hgatp: MODE 63:60, VMID 57:44 and PPN 43:0; "bits 59:58 and 1:0 are zero".
+const HGATP_STORED: u64 = 0xf3ff_ffff_ffff_fffc;
+/// "All others: 64 bits."
+const ALL: u64 = u64::MAX;
+
+/// The low bit of MODE in satp, vsatp and hgatp.
+const MODE_LOW: u32 = 60;
+/// The width of MODE in satp, vsatp and hgatp.
+const MODE_WIDTH: u32 = 4;
+/// MODE Bare.
+pub const BARE: u64 = 0;
+/// MODE Sv39 (satp, vsatp) or Sv39x4 (hgatp).
+pub const SV39: u64 = 8;
+
+/// Whose register it is.
+#[derive(Clone, Copy, PartialEq, Eq, Debug)]
+pub enum Level {
+    /// One of S's seven.
+    S,
+    /// One of VS's seven.
+    Vs,
+    /// One of H's six.
+    H,
+    /// One of M's nine.
+    M,
+}
+
+/// One row of the table of registers.
+#[derive(Clone, Copy, PartialEq, Eq, Debug)]
+pub struct Row {
+    /// The register's number.
+    pub number: u64,
+    /// The register's name.
+    pub name: &'static str,
+    /// Whose register it is.
+    pub level: Level,
+    /// Whether every write to it gives cause 2.
+    pub read_only: bool,
+    /// The bits that a write can store.
+    pub stored: u64,
+    /// What all the other bits read as.
+    pub constant: u64,
+}
+
+/// A row of a register that is not read-only.
+const fn row(number: u64, name: &'static str, level: Level, stored: u64, constant: u64) -> Row {
+    Row {
+        number,
+        name,
+        level,
+        read_only: false,
+        stored,
+        constant,
+    }
+}
+
+/// The twenty-nine registers, in rising order of number.
+pub const ROWS: [Row; 29] = [
+    row(SSTATUS, "sstatus", Level::S, SSTATUS_STORED, UXL_IS_2),
+    row(STVEC, "stvec", Level::S, TVEC_STORED, 0),
+    row(SSCRATCH, "sscratch", Level::S, ALL, 0),
+    row(SEPC, "sepc", Level::S, EPC_STORED, 0),
+    row(SCAUSE, "scause", Level::S, ALL, 0),
+    row(STVAL, "stval", Level::S, ALL, 0),
+    row(SATP, "satp", Level::S, ALL, 0),
+    row(VSSTATUS, "vsstatus", Level::Vs, SSTATUS_STORED, UXL_IS_2),
+    row(VSTVEC, "vstvec", Level::Vs, TVEC_STORED, 0),
+    row(VSSCRATCH, "vsscratch", Level::Vs, ALL, 0),
+    row(VSEPC, "vsepc", Level::Vs, EPC_STORED, 0),
+    row(VSCAUSE, "vscause", Level::Vs, ALL, 0),
+    row(VSTVAL, "vstval", Level::Vs, ALL, 0),
+    row(VSATP, "vsatp", Level::Vs, ALL, 0),
+    row(
+        MSTATUS,
+        "mstatus",
+        Level::M,
+        MSTATUS_STORED,
+        UXL_IS_2 | SXL_IS_2,
+    ),
+    row(MEDELEG, "medeleg", Level::M, MEDELEG_STORED, 0),
+    row(MTVEC, "mtvec", Level::M, TVEC_STORED, 0),
+    row(MSCRATCH, "mscratch", Level::M, ALL, 0),
+    row(MEPC, "mepc", Level::M, EPC_STORED, 0),
+    row(MCAUSE, "mcause", Level::M, ALL, 0),
+    row(MTVAL, "mtval", Level::M, ALL, 0),
+    row(MTINST, "mtinst", Level::M, ALL, 0),
+    row(MTVAL2, "mtval2", Level::M, ALL, 0),
+    row(HSTATUS, "hstatus", Level::H, HSTATUS_STORED, UXL_IS_2),
+    row(HEDELEG, "hedeleg", Level::H, HEDELEG_STORED, 0),
+    row(HTVAL, "htval", Level::H, ALL, 0),
+    row(HTINST, "htinst", Level::H, ALL, 0),
+    row(HGATP, "hgatp", Level::H, HGATP_STORED, 0),
+    Row {
+        number: HGEIP,
+        name: "hgeip",
+        level: Level::H,
+        read_only: true,
+        stored: 0,
+        constant: 0,
+    },
+];
+
+/// The row of the register with this number, or none for an unlisted number.
+pub fn find(number: u64) -> Option<&'static Row> {
+    ROWS.iter().find(|row| row.number == number)
+}
+
+/// MPP of an mstatus.
+pub fn mpp(mstatus: u64) -> u64 {
+    field(mstatus, MPP_LOW, MPP_WIDTH)
+}
+
+/// An mstatus with MPP replaced.
+pub fn with_mpp(mstatus: u64, mpp: u64) -> u64 {
+    with_field(mstatus, MPP_LOW, MPP_WIDTH, mpp)
+}
+
+/// MODE of a satp, vsatp or hgatp.
+pub fn atp_mode(atp: u64) -> u64 {
+    field(atp, MODE_LOW, MODE_WIDTH)
+}
+
+/// PPN (bits 43:0) of a satp, vsatp or hgatp.
+pub fn atp_ppn(atp: u64) -> u64 {
+    field(atp, 0, 44)
+}
+
+/// "MODE 0 or 8".
+fn mode_is_allowed(atp: u64) -> bool {
+    atp_mode(atp) == BARE || atp_mode(atp) == SV39
+}
+
+/// What the register of this row holds after `value` is written to it while it held `old`.
+///
+/// This is for registers that can be written; for sstatus, `old` and the result are the view.
+pub fn after_write(row: &Row, old: u64, value: u64) -> u64 {
+    match row.number {
+        MSTATUS => mstatus_after_write(row, old, value),
+        SATP | VSATP => atp_after_write(old, value),
+        HGATP => hgatp_after_write(row, old, value),
+        _ => masked(row, value),
+    }
+}
+
+/// "Stored bits": those of the value; "All other bits read 0", or 2 for UXL, SXL and VSXL.
+fn masked(row: &Row, value: u64) -> u64 {
+    (value & row.stored) | row.constant
+}
+
+/// mstatus: "writing 2 keeps the old MPP".
+fn mstatus_after_write(row: &Row, old: u64, value: u64) -> u64 {
+    let written = masked(row, value);
+    if mpp(value) == 2 {
+        with_mpp(written, mpp(old))
+    } else {
+        written
+    }
+}
+
+/// satp, vsatp: "MODE 0 or 8, else the whole write does nothing".
+fn atp_after_write(old: u64, value: u64) -> u64 {
+    if mode_is_allowed(value) {
+        value
+    } else {
+        old
+    }
+}
+
+/// hgatp: "MODE 63:60 is 0 or 8, another MODE keeps the old one while VMID 57:44 and PPN 43:0 are written".
+fn hgatp_after_write(row: &Row, old: u64, value: u64) -> u64 {
+    let written = masked(row, value);
+    if mode_is_allowed(value) {
+        written
+    } else {
+        with_field(written, MODE_LOW, MODE_WIDTH, atp_mode(old))
+    }
+}
+
+/// Whether some write could have stored `value` in the register of this row (part of check 2).
+pub fn could_be_stored(row: &Row, value: u64) -> bool {
+    let other_bits = value & !row.stored;
+    if other_bits != row.constant {
+        return false;
+    }
+    match row.number {
+        MSTATUS => mpp(value) != 2,
+        SATP | VSATP | HGATP => mode_is_allowed(value),
+        _ => true,
+    }
+}
+
+#[cfg(test)]
+mod tests {
+    use super::*;
+
+    fn written(number: u64, old: u64, value: u64) -> u64 {
+        after_write(find(number).unwrap(), old, value)
+    }
+
+    fn storable(number: u64, value: u64) -> bool {
+        could_be_stored(find(number).unwrap(), value)
+    }
+
+    #[test]
+    fn the_table_has_the_papers_numbers() {
+        let numbers: Vec<u64> = ROWS.iter().map(|row| row.number).collect();
+        let paper = [
+            0x100, 0x105, 0x140, 0x141, 0x142, 0x143, 0x180, 0x200, 0x205, 0x240, 0x241, 0x242,
+            0x243, 0x280, 0x300, 0x302, 0x305, 0x340, 0x341, 0x342, 0x343, 0x34a, 0x34b, 0x600,
+            0x602, 0x643, 0x64a, 0x680, 0xe12,
+        ];
+        assert_eq!(numbers, paper);
+        let count = |level| ROWS.iter().filter(|row| row.level == level).count();
+        assert_eq!(
+            [
+                count(Level::S),
+                count(Level::Vs),
+                count(Level::H),
+                count(Level::M)
+            ],
+            [7, 7, 6, 9]
+        );
+        let read_only: Vec<u64> = ROWS
+            .iter()
+            .filter(|row| row.read_only)
+            .map(|row| row.number)
+            .collect();
+        assert_eq!(read_only, [HGEIP]);
+        assert!(find(0xfff).is_none());
+        assert!(find(0x1100).is_none());
+    }
+
+    #[test]
+    fn known_replays_of_all_ones() {
+        assert_eq!(written(HEDELEG, 0, u64::MAX), 0xb1ff);
+        assert_eq!(written(MEDELEG, 0, u64::MAX), 0xf0_b7ff);
+        assert_eq!(written(HSTATUS, 0, u64::MAX), 0x2_0070_03c0);
+        assert_eq!(written(SSTATUS, 0, u64::MAX), 0x2_000c_0122);
+        assert_eq!(written(VSSTATUS, 0, u64::MAX), 0x2_000c_0122);
+        assert_eq!(written(MSTATUS, 0, u64::MAX), 0xca_007e_19aa);
+        assert_eq!(written(HGATP, 0, u64::MAX), 0x03ff_ffff_ffff_fffc);
+    }
+
+    #[test]
+    fn zero_written() {
+        assert_eq!(written(MSTATUS, 0, 0), 0xa_0000_0000);
+        assert_eq!(written(VSSTATUS, 0, 0), 0x2_0000_0000);
+        assert_eq!(written(HSTATUS, 0, 0), 0x2_0000_0000);
+        assert_eq!(written(HGATP, u64::MAX, 0), 0);
+        assert_eq!(written(SATP, 0x8000_0000_0000_0001, 0), 0);
+    }
+
+    #[test]
+    fn writing_mpp_2_keeps_the_old_one() {
+        for old in [0, 1, 3] {
+            let before = with_mpp(0xa_0000_0000, old);
+            for new in 0..4 {
+                let after = written(MSTATUS, before, (new << 11) | (1 << MIE));
+                let expected = if new == 2 { old } else { new };
+                assert_eq!(mpp(after), expected);
+                assert_eq!(after, with_mpp(0xa_0000_0008, expected));
+            }
+        }
+    }
+
+    #[test]
+    fn tvec_and_epc_lose_their_low_bits() {
+        for number in [STVEC, VSTVEC, MTVEC] {
+            assert_eq!(written(number, 0, u64::MAX), !2);
+            assert!(storable(number, !2));
+            assert!(storable(number, 1));
+            assert!(!storable(number, 2));
+        }
+        for number in [SEPC, VSEPC, MEPC] {
+            assert_eq!(written(number, 0, u64::MAX), !3);
+            assert!(!storable(number, 1));
+            assert!(!storable(number, 2));
+            assert!(storable(number, 4));
+        }
+    }
+
+    #[test]
+    fn an_unknown_mode_in_satp_does_nothing() {
+        for number in [SATP, VSATP] {
+            for mode in 0..16u64 {
+                let value = (mode << 60) | 0x0fff_ffff_ffff_ffff;
+                let allowed = mode == 0 || mode == 8;
+                assert_eq!(
+                    written(number, 5, value),
+                    if allowed { value } else { 5 },
+                    "mode {mode}"
+                );
+                assert_eq!(storable(number, value), allowed);
+            }
+        }
+    }
+
+    #[test]
+    fn an_unknown_mode_in_hgatp_keeps_the_old_mode_only() {
+        for mode in 0..16u64 {
+            for old_mode in [0u64, 8] {
+                let value = (mode << 60) | 0x0fff_ffff_ffff_ffff;
+                let kept = if mode == 0 || mode == 8 {
+                    mode
+                } else {
+                    old_mode
+                };
+                assert_eq!(
+                    written(HGATP, old_mode << 60, value),
+                    (kept << 60) | 0x03ff_ffff_ffff_fffc
+                );
+            }
+        }
+        for bad in [0, 1, 58, 59, 60, 61, 62] {
+            assert!(!storable(HGATP, 1 << bad), "bit {bad}");
+        }
+        for good in [2, 43, 44, 57, 63] {
+            assert!(storable(HGATP, 1 << good), "bit {good}");
+        }
+    }
+
+    #[test]
+    fn plain_registers_hold_64_bits() {
+        for number in [
+            SSCRATCH, SCAUSE, STVAL, VSSCRATCH, VSCAUSE, VSTVAL, HTVAL, HTINST, MSCRATCH, MCAUSE,
+            MTVAL, MTINST, MTVAL2,
+        ] {
+            assert_eq!(written(number, 0, u64::MAX), u64::MAX);
+            assert!(storable(number, u64::MAX));
+            assert!(storable(number, 0));
+        }
+    }
+
+    /// A value could be stored exactly when writing it over itself leaves it: the two rules agree on every single-bit change.
+    #[test]
+    fn what_could_be_stored_is_what_writing_it_leaves() {
+        for row in &ROWS {
+            for old in [0, u64::MAX, 0x1234_5678_9abc_def0] {
+                let held = after_write(row, masked(row, 0), old);
+                assert!(could_be_stored(row, held), "{} {held:x}", row.name);
+                for position in 0..64 {
+                    let changed = held ^ (1 << position);
+                    assert_eq!(
+                        could_be_stored(row, changed),
+                        after_write(row, masked(row, 0), changed) == changed,
+                        "{} {changed:x}",
+                        row.name
+                    );
+                }
+            }
+        }
+    }
+}

@@ -1,0 +1,596 @@
+//! The replay script language: reading a line, performing it, writing its answer.
+//!
+//! The three steps are separate functions ([`parse`], [`Session::perform`], [`write_answer`]) and [`run`] puts them together.
+//! Lines are bytes, not characters: what is not UTF-8 is an ordinary byte.
+
+use std::fs::File;
+use std::io::{self, BufRead, Read, Write};
+use std::path::PathBuf;
+
+use crate::access::{access, Accessed, Action};
+use crate::address::Machine;
+use crate::calls::{ebreak, ecall};
+use crate::hart::Hart;
+use crate::image::Image;
+use crate::registers::ROWS;
+use crate::returns::{mret, sret};
+use crate::trap::{request, Ending, Outcome, Trap};
+use crate::waits::{hfence_gvma, hfence_vvma, sfence_vma, wfi};
+use crate::walk::{self, translate, Access, Kind, Translation};
+
+/// The largest image that this program holds: 1 GiB.
+pub const IMAGE_LIMIT: u64 = 0x4000_0000;
+
+/// An instruction without operands.
+#[derive(Clone, Copy, PartialEq, Eq, Debug)]
+pub enum Instruction {
+    /// `ecall`
+    Ecall,
+    /// `ebreak`
+    Ebreak,
+    /// `mret`
+    Mret,
+    /// `sret`
+    Sret,
+    /// `wfi`
+    Wfi,
+    /// `sfence.vma`
+    SfenceVma,
+    /// `hfence.vvma`
+    HfenceVvma,
+    /// `hfence.gvma`
+    HfenceGvma,
+}
+
+/// A line that is neither blank nor bad.
+#[derive(Clone, PartialEq, Eq, Debug)]
+pub enum Line {
+    /// `image BASE LENGTH`
+    Image {
+        /// The base.
+        base: u64,
+        /// The length.
+        length: u64,
+    },
+    /// `file BASE PATH`
+    File {
+        /// The base.
+        base: u64,
+        /// The path, as bytes.
+        path: Vec<u8>,
+    },
+    /// `put ADDRESS VALUE`
+    Put {
+        /// The machine address.
+        address: u64,
+        /// The eight bytes.
+        value: u64,
+    },
+    /// `hart V P PC`
+    Hart {
+        /// V.
+        v: u64,
+        /// The privilege.
+        privilege: u64,
+        /// The program counter.
+        pc: u64,
+    },
+    /// `reg NUMBER VALUE`
+    Reg {
+        /// The register's number.
+        number: u64,
+        /// What it holds.
+        value: u64,
+    },
+    /// `fetch`, `load` or `store`
+    Translate(Access),
+    /// `read`, `write`, `set` or `clear`
+    Register {
+        /// The register's number.
+        number: u64,
+        /// What is done to it.
+        action: Action,
+    },
+    /// `trap`
+    Trap(Trap),
+    /// An instruction without operands.
+    Instruction(Instruction),
+    /// `show`
+    Show,
+}
+
+/// What a line answers.
+#[derive(Clone, PartialEq, Eq, Debug)]
+pub enum Answer {
+    /// A line that sets the scene.
+    Nothing,
+    /// A translation.
+    Translation(Box<Translation>),
+    /// An access to a register.
+    Register(Accessed),
+    /// A trap request or an instruction.
+    Event(Outcome),
+    /// `show`
+    Hart(Hart),
+}
+
+/// Why a line is bad: a sentence.
+#[derive(Clone, PartialEq, Eq, Debug)]
+pub struct Bad(pub String);
+
+// Reading a line.
+
+/// Spaces, tabs and carriage returns separate words.
+fn is_blank(byte: u8) -> bool {
+    matches!(byte, b' ' | b'\t' | b'\r')
+}
+
+/// `bytes` without the blanks before and after.
+fn trimmed(bytes: &[u8]) -> &[u8] {
+    let start = bytes.iter().position(|byte| !is_blank(*byte));
+    let end = bytes.iter().rposition(|byte| !is_blank(*byte));
+    match (start, end) {
+        (Some(start), Some(end)) => &bytes[start..=end],
+        _ => &[],
+    }
+}
+
+/// The next word and what follows it. A word ends at a blank or at `#`; it is empty at the end of the line and at a comment.
+fn next_word(bytes: &[u8]) -> (&[u8], &[u8]) {
+    let start = bytes
+        .iter()
+        .position(|byte| !is_blank(*byte))
+        .unwrap_or(bytes.len());
+    let from = &bytes[start..];
+    let end = from
+        .iter()
+        .position(|byte| is_blank(*byte) || *byte == b'#')
+        .unwrap_or(from.len());
+    from.split_at(end)
+}
+
+/// A piece of a line for a sentence: printable and not long.
+fn shown(bytes: &[u8]) -> String {
+    let cut = bytes.get(..40).unwrap_or(bytes);
+    let dots = if cut.len() < bytes.len() { "..." } else { "" };
+    format!("\"{}{dots}\"", cut.escape_ascii())
+}
+
+/// A number: 1 to 16 hexadecimal digits, either case, no prefix and no sign.
+pub fn parse_number(word: &[u8]) -> Option<u64> {
+    if word.is_empty() || word.len() > 16 {
+        return None;
+    }
+    let mut number = 0u64;
+    for byte in word {
+        let digit = char::from(*byte).to_digit(16)?;
+        number = (number << 4) | u64::from(digit);
+    }
+    Some(number)
+}
+
+/// Exactly `N` numbers, and nothing but a comment after them.
+fn numbers<const N: usize>(mut rest: &[u8]) -> Result<[u64; N], Bad> {
+    let mut found = [0; N];
+    for place in &mut found {
+        let (word, after) = next_word(rest);
+        if word.is_empty() {
+            return Err(Bad(format!("a number is missing: {N} are needed")));
+        }
+        *place = parse_number(word).ok_or_else(|| {
+            Bad(format!(
+                "{} is not a number of 1 to 16 hexadecimal digits",
+                shown(word)
+            ))
+        })?;
+        rest = after;
+    }
+    let (surplus, _) = next_word(rest);
+    if !surplus.is_empty() {
+        return Err(Bad(format!(
+            "{} is too much: {N} numbers are needed",
+            shown(surplus)
+        )));
+    }
+    Ok(found)
+}
+
+/// WRITES or FLAG: 0 or 1.
+fn flag(number: u64, name: &str) -> Result<bool, Bad> {
+    match number {
+        0 => Ok(false),
+        1 => Ok(true),
+        _ => Err(Bad(format!("{name} is {number:x}, neither 0 nor 1"))),
+    }
+}
+
+/// Reads one line (without its newline). None for a line with nothing but blanks and a comment.
+pub fn parse(line: &[u8]) -> Result<Option<Line>, Bad> {
+    let (word, rest) = next_word(line);
+    if word.is_empty() {
+        return Ok(None);
+    }
+    let parsed = match word {
+        b"image" => {
+            let [base, length] = numbers(rest)?;
+            Line::Image { base, length }
+        }
+        b"file" => parse_file(rest)?,
+        b"put" => {
+            let [address, value] = numbers(rest)?;
+            Line::Put { address, value }
+        }
+        b"hart" => {
+            let [v, privilege, pc] = numbers(rest)?;
+            Line::Hart { v, privilege, pc }
+        }
+        b"reg" => {
+            let [number, value] = numbers(rest)?;
+            Line::Reg { number, value }
+        }
+        b"fetch" => parse_access(Kind::Fetch, rest)?,
+        b"load" => parse_access(Kind::Load, rest)?,
+        b"store" => parse_access(Kind::Store, rest)?,
+        b"read" => {
+            let [number] = numbers(rest)?;
+            let action = Action::Read;
+            Line::Register { number, action }
+        }
+        b"write" => {
+            let [number, value] = numbers(rest)?;
+            let action = Action::Write(value);
+            Line::Register { number, action }
+        }
+        b"set" => {
+            let [number, value, writes] = numbers(rest)?;
+            let writes = flag(writes, "WRITES")?;
+            let action = Action::Set { value, writes };
+            Line::Register { number, action }
+        }
+        b"clear" => {
+            let [number, value, writes] = numbers(rest)?;
+            let writes = flag(writes, "WRITES")?;
+            let action = Action::Clear { value, writes };
+            Line::Register { number, action }
+        }
+        b"trap" => parse_trap(rest)?,
+        b"ecall" => parse_instruction(Instruction::Ecall, rest)?,
+        b"ebreak" => parse_instruction(Instruction::Ebreak, rest)?,
+        b"mret" => parse_instruction(Instruction::Mret, rest)?,
+        b"sret" => parse_instruction(Instruction::Sret, rest)?,
+        b"wfi" => parse_instruction(Instruction::Wfi, rest)?,
+        b"sfence.vma" => parse_instruction(Instruction::SfenceVma, rest)?,
+        b"hfence.vvma" => parse_instruction(Instruction::HfenceVvma, rest)?,
+        b"hfence.gvma" => parse_instruction(Instruction::HfenceGvma, rest)?,
+        b"show" => {
+            let [] = numbers(rest)?;
+            Line::Show
+        }
+        _ => return Err(Bad(format!("the word {} is unknown", shown(word)))),
+    };
+    Ok(Some(parsed))
+}
+
+/// The rest of a `fetch`, `load` or `store` line.
+fn parse_access(kind: Kind, rest: &[u8]) -> Result<Line, Bad> {
+    let [address, width] = numbers(rest)?;
+    Ok(Line::Translate(Access {
+        kind,
+        address,
+        width,
+    }))
+}
+
+/// The rest of a `trap` line.
+fn parse_trap(rest: &[u8]) -> Result<Line, Bad> {
+    let [cause, value, second, word, flag_number] = numbers(rest)?;
+    let flag = flag(flag_number, "FLAG")?;
+    Ok(Line::Trap(Trap {
+        cause,
+        value,
+        second,
+        word,
+        flag,
+    }))
+}
+
+/// The rest of a line with an instruction: nothing.
+fn parse_instruction(instruction: Instruction, rest: &[u8]) -> Result<Line, Bad> {
+    let [] = numbers(rest)?;
+    Ok(Line::Instruction(instruction))
+}
+
+/// The rest of a `file` line: BASE, a blank, and PATH, which is all the rest of the line without the blanks around it. A `#`
+/// in PATH is part of it.
+fn parse_file(rest: &[u8]) -> Result<Line, Bad> {
+    let (base_word, after) = next_word(rest);
+    let [base] = numbers(base_word)?;
+    let path = match after.first() {
+        Some(byte) if is_blank(*byte) => trimmed(after),
+        _ => &[],
+    };
+    if path.is_empty() {
+        return Err(Bad("the path of the file is missing".to_string()));
+    }
+    Ok(Line::File {
+        base,
+        path: path.to_vec(),
+    })
+}
+
+// Performing a line.
+
+/// What a script has set up so far: the hart and the image of the next event.
+#[derive(Clone, PartialEq, Eq, Debug)]
+pub struct Session {
+    /// The hart.
+    pub hart: Hart,
+    /// The image.
+    pub image: Image,
+    /// The folder that the paths of `file` lines start from.
+    folder: PathBuf,
+}
+
+impl Session {
+    /// The session before the first line: `hart 0 3 0`, an image of base 0 and length 0.
+    pub fn new(folder: PathBuf) -> Session {
+        Session {
+            hart: Hart::new(0, 3, 0),
+            image: Image::default(),
+            folder,
+        }
+    }
+
+    /// Performs one line.
+    pub fn perform(&mut self, line: &Line) -> Result<Answer, Bad> {
+        match line {
+            Line::Image { base, length } => {
+                self.image = zero_image(*base, *length)?;
+                Ok(Answer::Nothing)
+            }
+            Line::File { base, path } => {
+                self.image = self.file_image(*base, path)?;
+                Ok(Answer::Nothing)
+            }
+            Line::Put { address, value } => self.put(*address, *value),
+            Line::Hart { v, privilege, pc } => {
+                self.hart = Hart::new(*v, *privilege, *pc);
+                Ok(Answer::Nothing)
+            }
+            Line::Reg { number, value } => self.reg(*number, *value),
+            Line::Translate(access) => {
+                let translation = translate(&self.hart, &self.image, access);
+                Ok(Answer::Translation(Box::new(translation)))
+            }
+            Line::Register { number, action } => {
+                let accessed = access(&self.hart, *number, *action);
+                self.hart = accessed.outcome.hart;
+                Ok(Answer::Register(accessed))
+            }
+            Line::Trap(trap) => Ok(self.hand_on(request(&self.hart, trap))),
+            Line::Instruction(instruction) => {
+                let outcome = perform_instruction(&self.hart, *instruction);
+                Ok(self.hand_on(outcome))
+            }
+            Line::Show => Ok(Answer::Hart(self.hart)),
+        }
+    }
+
+    /// "The hart after an event is the hart of the next one."
+    fn hand_on(&mut self, outcome: Outcome) -> Answer {
+        self.hart = outcome.hart;
+        Answer::Event(outcome)
+    }
+
+    /// `put`: eight bytes of the image.
+    fn put(&mut self, address: u64, value: u64) -> Result<Answer, Bad> {
+        if self.image.put(Machine(address), value) {
+            Ok(Answer::Nothing)
+        } else {
+            Err(Bad(format!(
+                "the eight bytes at {address:x} do not lie in the image"
+            )))
+        }
+    }
+
+    /// `reg`: "the stored register NUMBER holds exactly VALUE".
+    fn reg(&mut self, number: u64, value: u64) -> Result<Answer, Bad> {
+        match self.hart.stored_mut(number) {
+            Some(place) => {
+                *place = value;
+                Ok(Answer::Nothing)
+            }
+            None => Err(Bad(format!("{number:x} names no stored register"))),
+        }
+    }
+
+    /// `file`: an image of the bytes of a file.
+    fn file_image(&self, base: u64, path: &[u8]) -> Result<Image, Bad> {
+        let path_on_disk = self.folder.join(path_of(path));
+        let unreadable =
+            |error: io::Error| Bad(format!("the file {} can't be read: {error}", shown(path)));
+        let file = File::open(path_on_disk).map_err(unreadable)?;
+        let mut bytes = Vec::new();
+        file.take(IMAGE_LIMIT + 1)
+            .read_to_end(&mut bytes)
+            .map_err(unreadable)?;
+        if bytes.len() as u64 > IMAGE_LIMIT {
+            return Err(Bad(format!(
+                "the file {} is larger than {IMAGE_LIMIT:x} bytes",
+                shown(path)
+            )));
+        }
+        Ok(Image { base, bytes })
+    }
+}
+
+/// The events of instructions without operands.
+fn perform_instruction(hart: &Hart, instruction: Instruction) -> Outcome {
+    match instruction {
+        Instruction::Ecall => ecall(hart),
+        Instruction::Ebreak => ebreak(hart),
+        Instruction::Mret => mret(hart),
+        Instruction::Sret => sret(hart),
+        Instruction::Wfi => wfi(hart),
+        Instruction::SfenceVma => sfence_vma(hart),
+        Instruction::HfenceVvma => hfence_vvma(hart),
+        Instruction::HfenceGvma => hfence_gvma(hart),
+    }
+}
+
+/// `image`: zero bytes.
+fn zero_image(base: u64, length: u64) -> Result<Image, Bad> {
+    let too_large = || Bad(format!("an image of {length:x} bytes can't be held"));
+    if length > IMAGE_LIMIT {
+        return Err(too_large());
+    }
+    let length = usize::try_from(length).map_err(|_| too_large())?;
+    // Asking first whether the memory can be had: where it can't, `vec!` would end the program.
+    let mut asked: Vec<u8> = Vec::new();
+    asked.try_reserve_exact(length).map_err(|_| too_large())?;
+    drop(std::hint::black_box(asked));
+    let bytes = vec![0; length];
+    Ok(Image { base, bytes })
+}
+
+/// The path that these bytes name.
+#[cfg(unix)]
+fn path_of(bytes: &[u8]) -> PathBuf {
+    use std::os::unix::ffi::OsStrExt;
+    PathBuf::from(std::ffi::OsStr::from_bytes(bytes))
+}
+
+/// The path that these bytes name.
+#[cfg(not(unix))]
+fn path_of(bytes: &[u8]) -> PathBuf {
+    PathBuf::from(String::from_utf8_lossy(bytes).into_owned())
+}
+
+// Writing an answer.
+
+/// Writes the answer of a line.
+pub fn write_answer<W: Write>(output: &mut W, answer: &Answer) -> io::Result<()> {
+    match answer {
+        Answer::Nothing => Ok(()),
+        Answer::Translation(translation) => write_translation(output, translation),
+        Answer::Register(accessed) => match accessed.outcome.ending {
+            Ending::Refused(number) => writeln!(output, "refused {number:x}"),
+            Ending::Trapped(..) | Ending::Done => writeln!(output, "value {:x}", accessed.old),
+        },
+        Answer::Event(outcome) => match outcome.ending {
+            Ending::Refused(number) => writeln!(output, "refused {number:x}"),
+            Ending::Trapped(..) | Ending::Done => writeln!(output, "ok"),
+        },
+        Answer::Hart(hart) => write_hart(output, hart),
+    }
+}
+
+/// The answer of a translation and its list.
+fn write_translation<W: Write>(output: &mut W, translation: &Translation) -> io::Result<()> {
+    match translation.answer {
+        walk::Answer::Address(address) => writeln!(output, "address {:x}", address.0)?,
+        walk::Answer::Refused(number) => writeln!(output, "refused {number:x}")?,
+        walk::Answer::Fault(trap) => writeln!(
+            output,
+            "fault {:x} {:x} {:x} {:x} {:x}",
+            trap.cause,
+            trap.value,
+            trap.second,
+            trap.word,
+            u8::from(trap.flag)
+        )?,
+    }
+    for read in translation.list.items() {
+        writeln!(
+            output,
+            "read {:x} {:x} {:x} {:x}",
+            read.stage, read.level, read.address, read.value
+        )?;
+    }
+    Ok(())
+}
+
+/// The hart, as a script.
+fn write_hart<W: Write>(output: &mut W, hart: &Hart) -> io::Result<()> {
+    writeln!(
+        output,
+        "hart {:x} {:x} {:x}",
+        hart.v, hart.privilege, hart.pc
+    )?;
+    for row in &ROWS {
+        if let Some(content) = hart.stored(row.number) {
+            writeln!(output, "reg {:x} {content:x}", row.number)?;
+        }
+    }
+    Ok(())
+}
+
+// Running a script.
+
+/// How a script ended.
+#[derive(Clone, PartialEq, Eq, Debug)]
+pub enum End {
+    /// At its last line.
+    Whole,
+    /// At a bad line; `error LINE` has been written.
+    Bad {
+        /// The line's number, from 1.
+        line: u64,
+        /// Why: a sentence.
+        reason: String,
+    },
+}
+
+/// What kept a run from its end.
+#[derive(Debug)]
+pub enum Trouble {
+    /// The script can't be read.
+    Input(io::Error),
+    /// The answers can't be written.
+    Output(io::Error),
+}
+
+/// Runs a script: reads it from `input` and writes its answers to `output`.
+pub fn run<R: BufRead, W: Write>(
+    session: &mut Session,
+    input: &mut R,
+    output: &mut W,
+) -> Result<End, Trouble> {
+    let mut number = 0u64;
+    let mut buffer = Vec::new();
+    loop {
+        buffer.clear();
+        let length = input
+            .read_until(b'\n', &mut buffer)
+            .map_err(Trouble::Input)?;
+        if length == 0 {
+            output.flush().map_err(Trouble::Output)?;
+            return Ok(End::Whole);
+        }
+        number = number.wrapping_add(1);
+        let line = buffer.strip_suffix(b"\n").unwrap_or(&buffer);
+        match run_line(session, line) {
+            Ok(answer) => write_answer(output, &answer).map_err(Trouble::Output)?,
+            Err(Bad(reason)) => {
+                writeln!(output, "error {number:x}").map_err(Trouble::Output)?;
+                output.flush().map_err(Trouble::Output)?;
+                return Ok(End::Bad {
+                    line: number,
+                    reason,
+                });
+            }
+        }
+    }
+}
+
+/// Reads and performs one line.
+pub fn run_line(session: &mut Session, line: &[u8]) -> Result<Answer, Bad> {
+    match parse(line)? {
+        Some(line) => session.perform(&line),
+        None => Ok(Answer::Nothing),
+    }
+}
+
+#[cfg(test)]
+#[path = "script_tests.rs"]
+mod tests;

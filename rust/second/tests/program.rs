@@ -1,0 +1,196 @@
+//! Runs the program itself: standard input and files, exit statuses, sentences, large and odd input.
+
+use std::io::{Read, Write};
+use std::path::PathBuf;
+use std::process::{Command, Output, Stdio};
+
+fn second() -> Command {
+    Command::new(env!("CARGO_BIN_EXE_second"))
+}
+
+fn through_input(script: &[u8]) -> Output {
+    let mut child = second()
+        .stdin(Stdio::piped())
+        .stdout(Stdio::piped())
+        .stderr(Stdio::piped())
+        .spawn()
+        .unwrap();
+    let mut input = child.stdin.take().unwrap();
+    let script = script.to_vec();
+    let writer = std::thread::spawn(move || {
+        // A script that ends at a bad line is not read to its end.
+        let _ = input.write_all(&script);
+    });
+    let output = child.wait_with_output().unwrap();
+    writer.join().unwrap();
+    output
+}
+
+/// A folder of its own for one test.
+struct Folder(PathBuf);
+
+impl Folder {
+    fn new(name: &str) -> Folder {
+        let path = std::env::temp_dir().join(format!("second-{name}-{}", std::process::id()));
+        std::fs::create_dir_all(&path).unwrap();
+        Folder(path)
+    }
+}
+
+impl Drop for Folder {
+    fn drop(&mut self) {
+        let _ = std::fs::remove_dir_all(&self.0);
+    }
+}
+
+#[test]
+fn a_script_from_standard_input() {
+    let output = through_input(b"read 300\nwfi");
+    assert_eq!(output.stdout, b"value a00000000\nok\n");
+    assert_eq!(output.stderr, b"");
+    assert_eq!(output.status.code(), Some(0));
+}
+
+#[test]
+fn an_empty_script() {
+    let output = through_input(b"");
+    assert_eq!(output.stdout, b"");
+    assert_eq!(output.status.code(), Some(0));
+}
+
+#[test]
+fn a_bad_script_ends_with_a_sentence() {
+    let output = through_input(b"wfi\nnonsense\nwfi\n");
+    assert_eq!(output.stdout, b"ok\nerror 2\n");
+    assert_eq!(output.status.code(), Some(1));
+    let sentence = String::from_utf8(output.stderr).unwrap();
+    assert!(sentence.starts_with("second: line 2"), "{sentence}");
+    assert!(sentence.contains("nonsense"));
+}
+
+#[test]
+fn bytes_that_are_no_text() {
+    let every_byte: Vec<u8> = (0..=255).collect();
+    let output = through_input(&every_byte);
+    assert_eq!(output.stdout, b"error 1\n");
+    assert_eq!(output.status.code(), Some(1));
+    let mut random = Vec::new();
+    let mut state = 1u64;
+    for _ in 0..100_000 {
+        state ^= state << 13;
+        state ^= state >> 7;
+        state ^= state << 17;
+        random.push(state as u8);
+    }
+    let output = through_input(&random);
+    assert!(output.stdout.starts_with(b"error "));
+    assert_eq!(output.status.code(), Some(1));
+}
+
+#[test]
+fn a_file_line_starts_from_the_scripts_folder() {
+    let folder = Folder::new("files");
+    std::fs::create_dir_all(folder.0.join("sub")).unwrap();
+    std::fs::write(folder.0.join("sub/image"), [7u8; 4096]).unwrap();
+    let script = folder.0.join("script");
+    std::fs::write(&script, "file 1000 sub/image\nload 1ff8 8\nload 2000 8\n").unwrap();
+    let output = second().arg(&script).output().unwrap();
+    assert_eq!(output.stdout, b"address 1ff8\nfault 5 2000 0 0 0\n");
+    assert_eq!(output.status.code(), Some(0));
+    // From standard input it starts from the working directory.
+    let mut child = second()
+        .current_dir(folder.0.join("sub"))
+        .stdin(Stdio::piped())
+        .stdout(Stdio::piped())
+        .spawn()
+        .unwrap();
+    child
+        .stdin
+        .take()
+        .unwrap()
+        .write_all(b"file 0 image\nload 0 8\n")
+        .unwrap();
+    assert_eq!(child.wait_with_output().unwrap().stdout, b"address 0\n");
+    // A file without a folder in its name: its folder is the working directory.
+    let output = second()
+        .current_dir(&folder.0)
+        .arg("script")
+        .output()
+        .unwrap();
+    assert_eq!(output.status.code(), Some(0));
+}
+
+#[test]
+fn a_script_that_cannot_be_read() {
+    let folder = Folder::new("unreadable");
+    for path in [folder.0.join("missing"), folder.0.clone()] {
+        let output = second().arg(&path).output().unwrap();
+        assert_eq!(output.status.code(), Some(2));
+        assert_eq!(output.stdout, b"");
+        let sentence = String::from_utf8(output.stderr).unwrap();
+        assert!(sentence.contains("can't be read"), "{sentence}");
+    }
+}
+
+#[test]
+fn a_wrong_command_line() {
+    for arguments in [&["a", "b"][..], &["--explain"], &["-"]] {
+        let output = second().args(arguments).output().unwrap();
+        assert_eq!(output.status.code(), Some(2));
+        assert!(String::from_utf8_lossy(&output.stderr).contains("usage"));
+    }
+}
+
+#[test]
+fn a_reader_that_goes_away() {
+    let mut child = second()
+        .stdin(Stdio::piped())
+        .stdout(Stdio::piped())
+        .stderr(Stdio::piped())
+        .spawn()
+        .unwrap();
+    drop(child.stdout.take());
+    let mut input = child.stdin.take().unwrap();
+    let script = b"show\n".repeat(20_000);
+    let _ = input.write_all(&script);
+    drop(input);
+    let mut sentence = String::new();
+    child
+        .stderr
+        .take()
+        .unwrap()
+        .read_to_string(&mut sentence)
+        .unwrap();
+    assert_eq!(child.wait().unwrap().code(), Some(2));
+    assert!(sentence.contains("can't be written"), "{sentence}");
+    assert!(!sentence.contains("panicked"), "{sentence}");
+}
+
+#[test]
+fn many_lines() {
+    let lines = 300_000;
+    let output = through_input(&b"wfi\n".repeat(lines));
+    assert_eq!(output.stdout.len(), 3 * lines);
+    assert_eq!(output.status.code(), Some(0));
+}
+
+#[test]
+fn large_images() {
+    let output = through_input(
+        b"image 0 8000000\nput 7fffff8 1\nload 0 8\nimage 0 10000000\nload 0 8\nimage 0 4000000\nload 0 8\n",
+    );
+    assert_eq!(output.stdout, b"refused 1\nrefused 1\naddress 0\n");
+    assert_eq!(output.status.code(), Some(0));
+}
+
+#[test]
+fn one_very_long_line() {
+    let mut script = vec![b' '; 5_000_000];
+    script.extend(b"read 300");
+    script.extend(vec![b' '; 5_000_000]);
+    script.extend(b"# end");
+    assert_eq!(through_input(&script).stdout, b"value a00000000\n");
+    let output = through_input(&vec![b'f'; 5_000_000]);
+    assert_eq!(output.stdout, b"error 1\n");
+    assert!(output.stderr.len() < 200);
+}
