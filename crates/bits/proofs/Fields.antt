@@ -1,11 +1,11 @@
 -- Laws of fields: what was put is got, and every other field is as it was. Assumes nothing.
-use mathlib.Core.Path.{_≡_, refl, sym, ap, ap₂, subst, _∙_}
+use mathlib.Core.Path.{_≡_, sym, ap, ap₂, subst, _∙_}
 use mathlib.Core.Logic.{_⊎_, ⊎-elim}
-use Prim.Native.Nat.{ℕ, zero, suc, _+_, _*_, _/_, _%_, _^_, _-_, _<_, _≤_}
-use native.Mathlib.Nat.{mod-eq-of-lt, div-eq-of-lt, lt-of-lt-of-le, mod-lt, mod-mod, mul-assoc, add-mul, mul-mod-left, sub-self, sub-zero, zero-mod, mul-zero, zero-mul}
+use Prim.Native.Nat.{ℕ, _+_, _*_, _/_, _%_, _^_, _-_, _<_, _≤_}
+use native.Mathlib.Nat.{mod-eq-of-lt, div-eq-of-lt, lt-of-lt-of-le, mod-lt, mul-assoc, add-mul, mul-mod-left, sub-self, sub-zero, zero-mod}
 use native.Mathlib.Omega.{arith}
 use lib.Arith.{digits-div, digits-mod}
-use lib.Bits.{bitAnd, bitOr, and-shr, or-shr, and-mod, or-mod, and-mask, and-zero-r, or-zero-r, or-zero-l}
+use lib.Bits.{bitAnd, bitOr, and-shr, or-shr, and-mod, or-mod, and-mask, and-zero-r, or-zero-r}
 use lib.Pow.{pow-mono, pow-pos, pow-add, shl-shr, shl-lt, shr-lt, ones-lt, ones-sub-lt, split}
 use Rattle.bits.specs.declared.Field.{Field}
 use Rattle.bits.specs.Field.{Fits, ones, place, get, put, top}

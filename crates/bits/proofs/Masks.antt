@@ -1,10 +1,9 @@
 -- Laws of masks that `lib.Bits` does not state. Assumes nothing.
 use mathlib.Core.Path.{_≡_, refl, sym, ap, ap₂, _∙_}
-use Prim.Native.Nat.{ℕ, zero, suc, _+_, _*_, _/_, _%_, _^_, _-_, _<_, _≤_, min, max}
-use native.Mathlib.Nat.{le-of-suc-le-suc, not-suc-le-zero}
+use Prim.Native.Nat.{ℕ, _/_, _%_, _<_, min, max}
 use native.Mathlib.Omega.{arith}
 use lib.Arith.{bin-ind}
-use lib.Bits.{bitAnd, bitOr, and-step, or-step, and-shr, or-shr, and-zero-r, or-zero-r, and-high}
+use lib.Bits.{bitAnd, bitOr, and-step, or-step, and-shr, or-shr}
 
 -- a number and its halves: equal where half and last digit are
 halves : (x y : ℕ) → x / 2 ≡ y / 2 → x % 2 ≡ y % 2 → x ≡ y

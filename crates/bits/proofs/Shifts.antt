@@ -1,12 +1,12 @@
 -- What the code computes for a field is what the definitions say. Assumes nothing.
-use mathlib.Core.Path.{_≡_, refl, sym, ap, ap₂, _∙_}
-use Prim.Native.Nat.{ℕ, _+_, _*_, _/_, _%_, _^_, _-_, _<_, _≤_}
-use native.Mathlib.Nat.{one-mul, mod-eq-of-lt, lt-of-lt-of-le, add-comm, mod-lt}
+use mathlib.Core.Path.{_≡_, sym, ap, _∙_}
+use Prim.Native.Nat.{ℕ, _+_, _*_, _%_, _^_, _-_, _<_, _≤_}
+use native.Mathlib.Nat.{one-mul, mod-eq-of-lt, mod-lt}
 use native.Mathlib.Omega.{arith}
-use lib.Bits.{bitAnd, bitOr, and-high, and-mod}
-use lib.Pow.{pow-lt, pow-mono, pow-pos, high-ones, shl-shr, shl-lt, shl-exact, ones-lt}
+use lib.Bits.{bitAnd, and-high, and-mod}
+use lib.Pow.{pow-lt, pow-pos, high-ones, shl-shr, shl-exact, ones-lt}
 use Rattle.bits.specs.declared.Field.{Field}
-use Rattle.bits.specs.Field.{Fits, ones, place, get, put, top}
+use Rattle.bits.specs.Field.{Fits, ones, place}
 
 pub one-up : (w : ℕ) → w < 64 → (1 * 2 ^ w) % 2 ^ 64 ≡ 2 ^ w
 one-up w h = ap (λ (x : ℕ). x % 2 ^ 64) (one-mul (2 ^ w)) ∙ mod-eq-of-lt (pow-lt h)

@@ -1,15 +1,15 @@
 -- The laws' conditions as computed tests, so that for named fields each is `refl`. Assumes nothing.
-use mathlib.Core.Path.{_≡_, refl, sym, ap, ap₂, subst, _∙_}
-use mathlib.Core.Bool.{Bool, true, false, _&&_, _||_}
+use mathlib.Core.Path.{_≡_, sym, ap, ap₂, _∙_}
+use mathlib.Core.Bool.{Bool, true, _&&_, _||_}
 use mathlib.Core.Logic.{_⊎_, inl, inr, ⊎-elim}
-use Prim.Native.Nat.{ℕ, _+_, _*_, _/_, _%_, _^_, _-_, _<_, _≤_}
+use Prim.Native.Nat.{ℕ, _+_, _*_, _^_, _-_, _<_, _≤_}
 use native.Mathlib.Nat.{mod-eq-of-lt}
 use lib.Dec.{eqb, ltb, leb}
 use lib.Bits.{bitAnd, bitOr, and-zero-r, or-zero-r}
 use borrow.Author.Tests.{ltb-true, leb-true, eqb-true}
 use Rattle.bits.specs.declared.Field.{Field}
 use Rattle.bits.specs.Field.{Fits, ones, place, get, put, top}
-use Rattle.bits.proofs.Bools.{and-left, and-right, split, or-cases}
+use Rattle.bits.proofs.Bools.{and-left, and-right, or-cases}
 use Rattle.bits.proofs.Masks.{and-or, and-assoc}
 use Rattle.bits.proofs.Shifts.{place-and}
 use Rattle.bits.proofs.Fields.{Apart, get-put, get-put-other}

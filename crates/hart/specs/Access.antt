@@ -1,18 +1,18 @@
 -- Register access (document 01, "Access").
-use mathlib.Core.Bool.{Bool, true, false, _&&_}
-use mathlib.Core.List.{List, [], _∷_}
-use Prim.Native.Nat.{ℕ, _+_, _-_}
-use lib.Bits.{bitAnd, bitOr}
+use mathlib.Core.Bool.{Bool, true, false}
+use mathlib.Core.List.{[], _∷_}
+use Prim.Native.Nat.{ℕ}
+use lib.Bits.{bitAnd}
 use lib.Dec.{eqb}
 use lib.ListN as list
-use Rattle.bits.specs.Field.{pick, top, bits}
+use Rattle.bits.specs.Field.{pick, bits}
 use Rattle.registers.specs.declared.table.Row.{Row}
 use Rattle.registers.specs.declared.table.Found.{Found}
 use Rattle.registers.specs.declared.table.Found.the-variants.{At, Nothing}
 use Rattle.registers.specs.Fields.{SIE, SPIE, SPP, SUM, MXR, UXL}
 use Rattle.registers.specs.Places.{sstatus, mstatus}
 use Rattle.registers.specs.Rules.{stored}
-use Rattle.registers.specs.Table.{supervisor, at, table, firstAt}
+use Rattle.registers.specs.Table.{at, table, firstAt}
 use Rattle.privilege.specs.Mode.{verdict}
 use Rattle.csr.specs.declared.Form.{Form}
 use Rattle.csr.specs.declared.Form.the-variants.{Read, Write, Set, Clear}

@@ -1,5 +1,5 @@
 -- What an event comes to, and the order in which it is settled (document 01, "When the model says no").
-use mathlib.Core.Bool.{Bool, true, false, not}
+use mathlib.Core.Bool.{false, not}
 use Prim.Native.Nat.{ℕ, _+_, _%_, _^_}
 use lib.Dec.{eqb}
 use Rattle.bits.specs.Field.{pick}

@@ -1,6 +1,6 @@
 // What a hart holds, and check 2.
 ghost use mathlib.Core.Path.{_≡_};
-ghost use Prim.Native.Nat.{_+_, _%_, _^_};
+ghost use Prim.Native.Nat.{_%_};
 ghost use Rattle.hart.specs.Hart.{reset, context, registersPass, passes};
 use privilege::mode::Context;
 use registers::fields::MPRV;

@@ -1,10 +1,10 @@
 -- What any event can come to, with what is known where it does: each theorem goes by these cases. Assumes nothing.
-use mathlib.Core.Path.{_≡_, refl, sym, ap, subst, _∙_}
+use mathlib.Core.Path.{_≡_, refl, sym, subst}
 use mathlib.Core.Bool.{Bool, true, false}
 use Prim.Native.Nat.{ℕ, _<_}
 use lib.Dec.{eqb}
 use borrow.Author.Tests.{eqb-true, not-false}
-use Rattle.bits.proofs.Bools.{pick-both, clash}
+use Rattle.bits.proofs.Bools.{clash}
 use Rattle.registers.specs.declared.table.Row.{Row}
 use Rattle.registers.specs.declared.table.Found.{Found}
 use Rattle.registers.specs.declared.table.Found.the-variants.{At, Nothing}

@@ -1,12 +1,11 @@
 -- With V=1 an event that is done changes only VS registers, pc and the privilege, and V stays 1. Assumes nothing.
-use mathlib.Core.Path.{_≡_, refl, sym, ap, _∙_}
-use mathlib.Core.Bool.{Bool, true, false, _&&_, _||_, not}
-use Prim.Native.Nat.{ℕ, _+_, _<_}
+use mathlib.Core.Path.{_≡_, refl, sym}
+use mathlib.Core.Bool.{Bool, true, false, _&&_, _||_}
+use Prim.Native.Nat.{ℕ, _<_}
 use native.Mathlib.Omega.{arith}
 use lib.Dec.{eqb}
 use borrow.Author.Tests.{eq-eqb}
 use lib.Seq.{getD-set-other}
-use Rattle.bits.specs.Field.{pick}
 use Rattle.bits.specs.Every.{every}
 use Rattle.bits.proofs.Bools.{and-left, clash, or-left, or-right, and-rest}
 use Rattle.bits.proofs.Every.{every-at}
@@ -14,12 +13,12 @@ use Rattle.registers.specs.Fields.{TVM, VTVM}
 use Rattle.registers.specs.Places.{satp, hgatp}
 use Rattle.registers.specs.Rules.{stores-nothing}
 use Rattle.registers.specs.Table.{hypervisor, machine, Register, register, registers, at, rowOf}
-use Rattle.privilege.specs.Mode.{isU, isHS, isM, isVU, isVS, isSet}
+use Rattle.privilege.specs.Mode.{isU, isHS, isVU, isVS, isSet}
 use Rattle.csr.specs.Access as csr
 use Rattle.hart.specs.declared.state.Hart.{Hart}
-use Rattle.hart.specs.declared.event.Outcome.the-variants.{Done, Trapped, Refused}
+use Rattle.hart.specs.declared.event.Outcome.the-variants.{Done}
 use Rattle.hart.specs.declared.event.Step.{Step}
-use Rattle.hart.specs.Hart.{reg, context, passes}
+use Rattle.hart.specs.Hart.{context, passes}
 use Rattle.hart.specs.Return.{writesVSRET, returnedVS}
 use Rattle.csr.specs.Access.{reached, home}
 use Rattle.hart.specs.Access.{written}

@@ -1,10 +1,9 @@
 -- The starred known replays of registers and returns (document 01), as one computed table. Assumes nothing.
 use mathlib.Core.Path.{_≡_, refl}
-use mathlib.Core.Bool.{Bool, true, _&&_}
+use mathlib.Core.Bool.{true}
 use mathlib.Core.List.{List, [], _∷_}
 use Prim.Native.Nat.{ℕ}
 use lib.Dec.{eqb}
-use lib.Bits.{bitOr}
 use Rattle.bits.specs.Field.{top, get, put}
 use Rattle.bits.specs.Assign.{_after_, _:=_}
 use Rattle.bits.specs.Every.{every}

@@ -1,6 +1,6 @@
 -- A hart that passes check 2 is in one of the five modes; check 2 taken apart and put together. Assumes nothing.
-use mathlib.Core.Path.{_≡_, refl, sym, subst, subst₂}
-use mathlib.Core.Bool.{Bool, true, false, _&&_, _||_, not}
+use mathlib.Core.Path.{_≡_, refl, sym, subst₂}
+use mathlib.Core.Bool.{Bool, true, _&&_, _||_, not}
 use mathlib.Core.Logic.{⊎-elim}
 use Prim.Native.Nat.{ℕ, _%_}
 use lib.Dec.{eqb}
@@ -9,7 +9,7 @@ use Rattle.bits.specs.Every.{every}
 use Rattle.bits.proofs.Bools.{split, both, or-cases}
 use Rattle.registers.specs.Fields.{MPRV}
 use Rattle.registers.specs.Places.{mstatus}
-use Rattle.privilege.specs.Mode.{isU, isHS, isM, isVU, isVS, isSet}
+use Rattle.privilege.specs.Mode.{isM, isSet}
 use Rattle.hart.specs.declared.state.Hart.{Hart}
 use Rattle.hart.specs.Hart.{reg, context, holds, registersPass, passes}
 

@@ -2,19 +2,18 @@
 use mathlib.Core.Path.{_≡_, refl, sym, ap, ap₂, subst, _∙_}
 use mathlib.Core.Bool.{Bool, true, false, _&&_, _||_, not}
 use mathlib.Core.List.{List, [], _∷_}
-use mathlib.Core.Logic.{_⊎_, inl, inr, ⊎-elim}
+use mathlib.Core.Logic.{inl, inr, ⊎-elim}
 use Prim.Native.Nat.{ℕ, zero, suc, _+_, _%_, _^_, _-_, _<_}
 use native.Mathlib.Omega.{arith}
 use lib.Bits.{bitAnd, bitOr, and-zero-r, or-zero-r, and-mask}
-use lib.Dec.{eqb, ltb}
+use lib.Dec.{eqb}
 use lib.ListN.{getD, set, drop, length}
 use lib.Seq.{getD-set-same, getD-set-other}
 use borrow.Author.Tests.{eqb-true, eqb-false, eq-eqb}
 use Rattle.bits.specs.declared.Field.{Field}
 use Rattle.bits.specs.Field.{pick, top, get, put, has, copy}
 use Rattle.bits.specs.Assign.{_after_, _:=_}
-use Rattle.bits.specs.Every.{every}
-use Rattle.bits.proofs.Bools.{and-left, and-right, split, both, or-cases, clash, and-false, pick-both, or-left, or-right, and-rest, and-comm}
+use Rattle.bits.proofs.Bools.{and-right, or-cases, clash, and-false, or-left, or-right, and-rest, and-comm}
 use Rattle.bits.proofs.Masks.{and-or, and-assoc}
 use Rattle.bits.proofs.Fields.{get-lt, get-and, get-or, get-all}
 use Rattle.bits.proofs.Tests.{fits, apart, outside, got}
@@ -22,7 +21,7 @@ use Rattle.bits.proofs.Assign.{kept}
 use Rattle.bits.proofs.Every.{every-at, every-set}
 use Rattle.registers.specs.Fields.{TVM, MIE, MPIE, MPRV, MPP, MPV, SPP, SPV}
 use Rattle.registers.specs.Places.{sstatus, stvec, sepc, satp, vsstatus, vstvec, vsepc, mstatus, mtvec, mepc, hstatus, medeleg, hedeleg, hgatp}
-use Rattle.registers.specs.Rules.{legal, among, stored, stores-mstatus, stores-status, stores-epc, stores-word}
+use Rattle.registers.specs.Rules.{legal, among, stored, stores-mstatus, stores-status, stores-epc}
 use Rattle.registers.specs.Table.{supervisor, machine, at, rowOf}
 use Rattle.registers.proofs.Legal.{fine, takes, same, legal-allowed, stored-legal}
 use Rattle.registers.proofs.Rows.{row-sound}

@@ -3,7 +3,6 @@ use mathlib.Core.Bool.{Bool}
 use Prim.Native.Nat.{ℕ}
 use Rattle.traps.specs.declared.Trap.{Trap}
 use Rattle.hart.specs.declared.state.Hart.{Hart}
-use Rattle.hart.specs.declared.event.Outcome.{Outcome}
 use Rattle.hart.specs.declared.event.Step.{Step}
 use Rattle.csr.specs.declared.Form.{Form}
 use Rattle.hart.specs.declared.access.Accessed.{Accessed}

@@ -1,5 +1,5 @@
 -- What MRET, SRET, WFI and the fences give (document 01, "Traps and returns").
-use mathlib.Core.Bool.{Bool, true, false, _&&_, _||_, not}
+use mathlib.Core.Bool.{false, _&&_, _||_, not}
 use lib.Dec.{eqb}
 use Rattle.registers.specs.Fields.{TVM, TW, TSR, VTVM, VTW, VTSR}
 use Rattle.privilege.specs.declared.mode.Context.{Context}

@@ -1,9 +1,9 @@
 -- A value is legal exactly if some write to a register that holds a legal one stores it; and what keeps a register legal. Assumes nothing.
 use mathlib.Core.Path.{_≡_, refl, sym, ap, ap₂, subst, _∙_}
-use mathlib.Core.Bool.{Bool, true, false, _&&_, _||_}
+use mathlib.Core.Bool.{Bool, true, _&&_, _||_}
 use mathlib.Core.List.{List, [], _∷_}
 use mathlib.Core.Logic.{_↔_, ⊎-elim}
-use Prim.Native.Nat.{ℕ, _+_, _%_, _^_, _-_, _<_}
+use Prim.Native.Nat.{ℕ, _%_, _^_, _-_, _<_}
 use native.Mathlib.Nat.{mod-eq-of-lt}
 use lib.Bits.{bitAnd, bitOr, and-zero-r, or-zero-r, and-self, and-comm, and-mask}
 use lib.Dec.{eqb}

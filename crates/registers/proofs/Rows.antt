@@ -1,23 +1,21 @@
 -- The rule of every row of the table: one computed test, and what it says of each register. Assumes nothing.
 use mathlib.Core.Path.{_≡_, refl, sym, ap, _∙_}
 use mathlib.Core.Bool.{Bool, true}
-use mathlib.Core.List.{List, [], _∷_, map}
 use mathlib.Core.Logic.{_↔_}
-use Prim.Native.Nat.{ℕ, suc, _+_, _^_, _-_, _<_}
+use Prim.Native.Nat.{ℕ, suc, _+_, _^_, _<_}
 use native.Mathlib.Omega.{arith}
 use lib.Dec.{eqb, ltb}
-use lib.ListN.{getD, length, length-map, List·getD-map}
-use borrow.Author.Tests.{ltb-true}
+use lib.ListN.{List·getD-map}
 use Rattle.bits.specs.Field.{get, put}
 use Rattle.bits.specs.Every.{every}
 use Rattle.bits.proofs.Every.{every-any}
 use Rattle.bits.proofs.Tests.{fits}
 use Rattle.registers.specs.declared.table.Row.{Row}
-use Rattle.registers.specs.declared.table.Found.the-variants.{At, Nothing}
-use Rattle.registers.specs.Rules.{Rule, stored, legal, stores-nothing}
+use Rattle.registers.specs.declared.table.Found.the-variants.{At}
+use Rattle.registers.specs.Rules.{stored, legal, stores-nothing}
 use Rattle.registers.specs.Table.{Register, register, registers, at, rowOf, table, firstAt}
 use Rattle.registers.proofs.Legal.{sound, storedWhole, legal-exactly}
-use Rattle.registers.proofs.Search.{none, found}
+use Rattle.registers.proofs.Search.{found}
 
 abbrev test : ℕ → Register → Bool
 test i r = sound (r .rule)

@@ -13,7 +13,6 @@ use lib.Seq.{drop-cons}
 use borrow.Author.Tests.{eq-eqb, ne-eqb, eqb-true, eqb-false}
 use Rattle.bits.specs.Field.{pick}
 use Rattle.registers.specs.declared.table.Row.{Row}
-use Rattle.registers.specs.declared.table.Found.{Found}
 use Rattle.registers.specs.declared.table.Found.the-variants.{At, Nothing}
 use Rattle.registers.specs.Table.{firstAt}
 

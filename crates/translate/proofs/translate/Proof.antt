@@ -10,7 +10,6 @@ use Rattle.translate.specs.Translated.{unwalked, translated}
 use Rattle.translate.specs.declared.Answer.{Answer}
 use Rattle.translate.proofs.Accesses.{some-width, tables-of, handed-on}
 use borrow.Author.Needs.{needs}
-use Rattle.translate.proofs.refused.Reads as refused-reads′
 use Rattle.translate.proofs.translate.Statement.{statement}
 use Rattle.translate.proofs.translate.Tie as tie
 

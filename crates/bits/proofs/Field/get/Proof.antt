@@ -1,5 +1,4 @@
 use borrow.Author.Needs.{needs}
-use native.Mathlib.Omega.{arith}
 use Rattle.bits.specs.Field.{get}
 use Rattle.bits.proofs.Shifts.{one-up, one-up-pos}
 use Rattle.bits.proofs.Field.get.Statement.{statement}

@@ -1,5 +1,4 @@
 use borrow.Author.Needs.{needs}
-use native.Mathlib.Omega.{arith}
 use Rattle.bits.specs.Field.{put}
 use Rattle.bits.proofs.Shifts.{one-up-pos, ones-code, place-code}
 use Rattle.bits.proofs.Field.put.Statement.{statement}
