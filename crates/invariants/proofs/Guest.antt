@@ -12,19 +12,25 @@ use Rattle.bits.proofs.Every.{every-at}
 use Rattle.registers.specs.Fields.{TVM, VTVM}
 use Rattle.registers.specs.Places.{satp, hgatp}
 use Rattle.registers.specs.Rules.{stores-nothing}
-use Rattle.registers.specs.Table.{hypervisor, machine, Register, register, registers, at, rowOf}
+use Rattle.registers.specs.declared.table.Found.{Found}
+use Rattle.registers.specs.declared.table.Found.the-variants.{At, Nothing}
+use Rattle.registers.specs.Table.{hypervisor, machine, Register, register, registers, at, rowOf, table, firstAt}
 use Rattle.privilege.specs.Mode.{isU, isHS, isVU, isVS, isSet}
 use Rattle.csr.specs.Access as csr
+use Rattle.privilege.specs.declared.mode.Verdict.{Verdict}
+use Rattle.csr.specs.declared.Form.{Form}
 use Rattle.hart.specs.declared.state.Hart.{Hart}
 use Rattle.hart.specs.declared.event.Outcome.the-variants.{Done}
 use Rattle.hart.specs.declared.event.Step.{Step}
 use Rattle.hart.specs.Hart.{context, passes}
+use Rattle.hart.specs.Event.{done, settled}
 use Rattle.hart.specs.Return.{writesVSRET, returnedVS}
-use Rattle.csr.specs.Access.{reached, home}
-use Rattle.hart.specs.Access.{written}
+use Rattle.csr.specs.Access.{reached, combined, home}
+use Rattle.hart.specs.Access.{seen, written, accessRow, accessFound, access}
 use Rattle.invariants.specs.Events.{Event, run}
 use Rattle.invariants.proofs.Mode.{Mode, U, HS, M, VU, VS, passing}
 use Rattle.invariants.proofs.Writes.{apart, outside-kept}
+use Rattle.invariants.proofs.Settled.{settled-cases}
 use Rattle.invariants.proofs.Comes.{Allowed, Comes, refuses, traps, mrets, srets-VS, srets-HS, moves, writes, comes}
 use Rattle.invariants.proofs.Sides.{guest, OnlyIn}
 
@@ -85,3 +91,18 @@ within h s (writes a place l w p x) v e = record { registers = set-guest h (reac
 -- every event that starts with V=1 and is done (it neither traps nor is refused)
 pub guest-within : (e : Event) (h : Hart) → h .v ≡ 1 → run e h .outcome ≡ Done → Within h (run e h .hart)
 guest-within e h = within h (run e h) (comes e h)
+
+-- an access that is done keeps the privilege too
+settled-keeps : (h : Hart) (own : ℕ) (verdict : Verdict) (h′ : Hart) → h′ .privilege ≡ h .privilege → settled h own verdict (done h′) .outcome ≡ Done → settled h own verdict (done h′) .hart .privilege ≡ h .privilege
+settled-keeps h own verdict h′ k =
+    settled-cases (λ (s : Step). s .outcome ≡ Done → s .hart .privilege ≡ h .privilege) h own verdict (done h′) (λ n z e. refl)
+    (λ p cause e. let z : _≡_ {A = ℕ} 0 1 = cc in let no : ⊥ = omega arith in absurd no) (λ p o a b e. k)
+
+found-keeps : (found : Found) (h : Hart) (own : ℕ) (form : Form) (w : ℕ) (b : Bool) → accessFound found h own form w b .outcome ≡ Done → accessFound found h own form w b .hart .privilege ≡ h .privilege
+unfolding accessRow written
+found-keeps Nothing h own form w b = settled-keeps h own _ h refl
+found-keeps (At place row) h own form w b = settled-keeps h own _ (written h (reached (h .v) (row .level) place) (combined form (seen h (reached (h .v) (row .level) place)) w) b) refl
+
+pub access-keeps-privilege : (h : Hart) (form : Form) (number w : ℕ) (b : Bool) → access h form number w b .outcome ≡ Done → access h form number w b .hart .privilege ≡ h .privilege
+unfolding access
+access-keeps-privilege h form number w b = found-keeps (firstAt table number 0) h _ form w b
