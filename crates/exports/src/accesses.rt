@@ -1,0 +1,70 @@
+// Register access on a hart's words.
+ghost use mathlib.Core.Path.{_≡_};
+ghost use Rattle.hart.specs.Access.{read, write, set, clear};
+ghost use Rattle.hart.specs.declared.state.Hart.{Hart};
+ghost use Rattle.exports.specs.Calls.{accessCode, accessLeft};
+use crate::layout;
+
+// Reads the register with a number.
+#[no_mangle]
+pub extern "C" fn balcumentri_read(h: &[u64], number: u64, out: &mut [u64]) -> u64
+    ensures { λ r. ⌜ r ≡ accessCode (now (h .entry)) (now (out .entry)) ⌝ }
+    ensures { λ _. ⌜ now (out .exit) ≡ accessLeft (λ (x : Hart). read x number) (now (h .entry)) (now (out .entry)) ⌝ }
+{
+    if layout::misfit(h.len(), out.len(), 35) {
+        return 1;
+    }
+    layout::put_access(layout::hart_of(h).read(number), &mut *out);
+    0
+}
+
+// Writes w to it.
+#[no_mangle]
+pub extern "C" fn balcumentri_write(h: &[u64], number: u64, w: u64, out: &mut [u64]) -> u64
+    ensures { λ r. ⌜ r ≡ accessCode (now (h .entry)) (now (out .entry)) ⌝ }
+    ensures { λ _. ⌜ now (out .exit) ≡ accessLeft (λ (x : Hart). write x number w) (now (h .entry)) (now (out .entry)) ⌝ }
+{
+    if layout::misfit(h.len(), out.len(), 35) {
+        return 1;
+    }
+    layout::put_access(layout::hart_of(h).write(number, w), &mut *out);
+    0
+}
+
+// Sets the bits of w in it, if the access writes.
+#[no_mangle]
+pub extern "C" fn balcumentri_set(
+    h: &[u64],
+    number: u64,
+    w: u64,
+    writes: bool,
+    out: &mut [u64],
+) -> u64
+    ensures { λ r. ⌜ r ≡ accessCode (now (h .entry)) (now (out .entry)) ⌝ }
+    ensures { λ _. ⌜ now (out .exit) ≡ accessLeft (λ (x : Hart). set x number w writes) (now (h .entry)) (now (out .entry)) ⌝ }
+{
+    if layout::misfit(h.len(), out.len(), 35) {
+        return 1;
+    }
+    layout::put_access(layout::hart_of(h).set(number, w, writes), &mut *out);
+    0
+}
+
+// Clears the bits of w in it, if the access writes.
+#[no_mangle]
+pub extern "C" fn balcumentri_clear(
+    h: &[u64],
+    number: u64,
+    w: u64,
+    writes: bool,
+    out: &mut [u64],
+) -> u64
+    ensures { λ r. ⌜ r ≡ accessCode (now (h .entry)) (now (out .entry)) ⌝ }
+    ensures { λ _. ⌜ now (out .exit) ≡ accessLeft (λ (x : Hart). clear x number w writes) (now (h .entry)) (now (out .entry)) ⌝ }
+{
+    if layout::misfit(h.len(), out.len(), 35) {
+        return 1;
+    }
+    layout::put_access(layout::hart_of(h).clear(number, w, writes), &mut *out);
+    0
+}
