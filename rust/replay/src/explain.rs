@@ -29,7 +29,7 @@ impl Explainer {
         let view = View::new(&self.before, access.kind);
         writeln!(out, "# {}", view.heading(access))?;
         for read in translation.reads() {
-            writeln!(out, "# {}", walk::entry(read))?;
+            writeln!(out, "# {}", walk::entry(&view, read))?;
         }
         writeln!(out, "# {}", walk::ending(&view, translation))
     }

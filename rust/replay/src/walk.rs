@@ -184,20 +184,26 @@ fn is_leaf(entry: u64) -> bool {
 }
 
 /// An entry: its stage, level and place, its flags, and where it leads.
-pub fn entry(read: &Read) -> String {
+pub fn entry(view: &View, read: &Read) -> String {
     let stage = if read.stage == 2 { "second" } else { "first" };
     let flags: String = "VRWXUGAD"
         .chars()
         .zip(0..)
         .map(|(flag, bit)| if has(read.value, bit) { flag } else { '-' })
         .collect();
+    // with V=1 the first stage yields guest physical addresses
+    let guest = if read.stage == 1 && view.v == 1 {
+        "guest physical "
+    } else {
+        ""
+    };
     let target = (read.value >> 10 & ((1 << 44) - 1)) << 12;
     let leads = if !has(read.value, 0) {
         "not valid".to_owned()
     } else if is_leaf(read.value) {
-        format!("a leaf: the {} page at {target:x}", page(read.level))
+        format!("a leaf: the {} page at {guest}{target:x}", page(read.level))
     } else {
-        format!("a pointer to the table at {target:x}")
+        format!("a pointer to the table at {guest}{target:x}")
     };
     format!(
         "{stage} stage, level {:x}, entry at {:x}: {flags}, {leads}",
