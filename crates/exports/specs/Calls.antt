@@ -1,26 +1,21 @@
 -- What a call of the C face returns, and what the lent slice holds after it.
-use mathlib.Core.Bool.{Bool, _||_, not}
+use mathlib.Core.Bool.{Bool}
 use mathlib.Core.List.{List}
 use Prim.Native.Nat.{ℕ}
-use lib.Dec.{eqb, ltb}
+use lib.Dec.{ltb}
 use lib.ListN.{length}
 use Rattle.bits.specs.Field.{pick}
 use Rattle.registers.specs.declared.table.Found.{Found}
 use Rattle.registers.specs.declared.table.Found.the-variants.{At, Nothing}
 use Rattle.registers.specs.Table.{at, table, firstAt}
-use Rattle.rules.specs.declared.Kind.{Kind}
-use Rattle.rules.specs.declared.Kind.the-variants.{Fetch, Load, Store}
 use Rattle.hart.specs.declared.state.Hart.{Hart}
 use Rattle.hart.specs.declared.event.Step.{Step}
 use Rattle.hart.specs.declared.access.Accessed.{Accessed}
 use Rattle.translate.specs.Translated.{translated}
-use Rattle.exports.specs.declared.translation.Named.{Named}
-use Rattle.exports.specs.declared.translation.Named.the-variants.{Is, Unnamed}
-use Rattle.exports.specs.Layout.{hartOf, stepWords, accessWords, translationWords}
-
--- a hart of other than 32 words, or a result of other than n
-abbrev pub misfit : (hart out n : ℕ) → Bool
-misfit hart out n = not (eqb hart 32) || not (eqb out n)
+use Rattle.layout.specs.declared.Named.{Named}
+use Rattle.layout.specs.declared.Named.the-variants.{Is, Unnamed}
+use Rattle.layout.specs.Layout.{hartOf, stepWords, accessWords, translationWords}
+use Rattle.layout.specs.Taken.{misfit, kindOf}
 
 -- 0: the result is written. 1: a slice has a wrong length, and nothing is written.
 abbrev pub code : Bool → ℕ
@@ -43,10 +38,6 @@ accessCode h out = code (misfit (length h) (length out) 35)
 
 abbrev pub accessLeft : (Hart → Accessed) → (h out : List ℕ) → List ℕ
 accessLeft access h out = left (misfit (length h) (length out) 35) out (accessWords (access (hartOf h)))
-
--- the kinds of access by number: 0 fetch, 1 load, 2 store
-abbrev pub kindOf : ℕ → Named
-kindOf n = pick (eqb n 0) (Is Fetch) (pick (eqb n 1) (Is Load) (pick (eqb n 2) (Is Store) Unnamed))
 
 -- a translation, its kind of access given by number; 2: no kind has the number, and nothing is written
 abbrev pub kindCode : Named → ℕ

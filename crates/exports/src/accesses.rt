@@ -3,7 +3,6 @@ ghost use mathlib.Core.Path.{_≡_};
 ghost use Rattle.hart.specs.Access.{read, write, set, clear};
 ghost use Rattle.hart.specs.declared.state.Hart.{Hart};
 ghost use Rattle.exports.specs.Calls.{accessCode, accessLeft};
-use crate::layout;
 
 // Reads the register with a number.
 #[no_mangle]

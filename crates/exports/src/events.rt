@@ -5,7 +5,6 @@ ghost use Rattle.hart.specs.Return.{mret, sret};
 ghost use Rattle.hart.specs.Wait.{wfi, sfenceVma, hfenceVvma, hfenceGvma};
 ghost use Rattle.hart.specs.declared.state.Hart.{Hart};
 ghost use Rattle.exports.specs.Calls.{stepCode, stepLeft};
-use crate::layout;
 use traps::Trap;
 
 // A trap request.

@@ -6,9 +6,9 @@ ghost use lib.Dec.{eqb};
 ghost use lib.ListN.{length};
 ghost use Rattle.bits.specs.Field.{pick};
 ghost use Rattle.hart.specs.Hart.{reset, passes};
-ghost use Rattle.exports.specs.Layout.{words, hartOf};
-ghost use Rattle.exports.specs.Calls.{misfit, code, left};
-use crate::layout;
+ghost use Rattle.layout.specs.Layout.{words, hartOf};
+ghost use Rattle.layout.specs.Taken.{misfit};
+ghost use Rattle.exports.specs.Calls.{code, left};
 use hart::state::Hart;
 
 // A hart whose registers hold what a write of 0 leaves.

@@ -1,29 +1,7 @@
 // Translation on a hart's words.
 ghost use mathlib.Core.Path.{_≡_};
-ghost use Rattle.exports.specs.Calls.{kindOf, translationCode, translationLeft};
-use crate::layout;
-use rules::Kind;
-
-// What a number names among the kinds of access.
-pub enum Named {
-    Is(Kind),
-    Unnamed,
-}
-
-fn kind_of(n: u64) -> Named
-    ensures { λ r. ⌜ r ≡ kindOf n ⌝ }
-{
-    if n == 0 {
-        return Named::Is(Kind::Fetch);
-    }
-    if n == 1 {
-        return Named::Is(Kind::Load);
-    }
-    if n == 2 {
-        return Named::Is(Kind::Store);
-    }
-    Named::Unnamed
-}
+ghost use Rattle.exports.specs.Calls.{translationCode, translationLeft};
+use layout::Named;
 
 // The translation of an access: 0 a fetch, 1 a load, 2 a store.
 #[no_mangle]
@@ -42,7 +20,7 @@ pub extern "C" fn balcumentri_translate(
     if layout::misfit(h.len(), out.len(), 67) {
         return 1;
     }
-    let named = kind_of(kind);
+    let named = layout::kind_of(kind);
     let Named::Is(k) = named else {
         return 2;
     };

@@ -3,8 +3,8 @@ use mathlib.Core.Path.{refl, sym, _∙_}
 use mathlib.Core.List.{[], _∷_}
 use native.Mathlib.Omega.{arith}
 use denote.Ref.{now}
-use Rattle.exports.proofs.Calls.{hart-fits, out-fits}
-use Rattle.exports.proofs.Words.{sets-all}
+use Rattle.layout.proofs.Lengths.{hart-fits, out-fits}
+use Rattle.layout.proofs.Words.{sets-all}
 use borrow.Author.Needs.{needs}
 use Rattle.exports.proofs.harts.balcumentri_passes.Statement.{statement}
 use Rattle.exports.proofs.harts.balcumentri_passes.Tie as tie

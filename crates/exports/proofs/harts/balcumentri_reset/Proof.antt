@@ -2,8 +2,8 @@ use mathlib.Core.Path.{refl, _∙_}
 use denote.Ref.{now}
 use borrow.Author.Tests.{eq-eqb, ne-eqb}
 use Rattle.hart.specs.Hart.{reset}
-use Rattle.exports.specs.Layout.{words}
-use Rattle.exports.proofs.Words.{sets-all}
+use Rattle.layout.specs.Layout.{words}
+use Rattle.layout.proofs.Words.{sets-all}
 use borrow.Author.Needs.{needs}
 use Rattle.exports.proofs.harts.balcumentri_reset.Statement.{statement}
 use Rattle.exports.proofs.harts.balcumentri_reset.Tie as tie

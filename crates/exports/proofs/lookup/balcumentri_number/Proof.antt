@@ -1,6 +1,6 @@
 use borrow.Author.Tests.{lt-ltb, le-ltb}
 use Rattle.exports.specs.Calls.{number}
-use Rattle.exports.proofs.Calls.{number-at}
+use Rattle.exports.proofs.Rows.{number-at}
 use borrow.Author.Needs.{needs}
 use Rattle.exports.proofs.lookup.balcumentri_number.Statement.{statement}
 use Rattle.exports.proofs.lookup.balcumentri_number.Tie as tie

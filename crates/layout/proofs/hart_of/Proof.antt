@@ -1,0 +1,83 @@
+use Prim.Native.Nat.{_+_, _-_, _≤_}
+use mathlib.Core.Path.{_≡_, refl, sym, _∙_}
+use native.Mathlib.Omega.{arith}
+use lib.ListN.{length, drop, length-set, length-drop}
+use lib.Seq.{sets}
+use borrow.Author.Needs.{needs}
+use Rattle.layout.proofs.Words.{sets-all, copied, copied-all}
+use Rattle.layout.proofs.hart_of.Statement.{statement}
+use Rattle.layout.proofs.hart_of.Tie as tie
+
+abbrev Inv-loop : tie.InvT-loop
+Inv-loop ws regs₀ i₀ regs i = (i ≤ 29) × (length ws ≡ 32) × (length regs ≡ 29) × (sets regs i (drop (i + 3) ws) ≡ drop 3 ws)
+
+abbrev μ-loop : tie.MeasureT-loop
+μ-loop ws regs₀ i₀ regs i = 29 - i
+
+loop-holds : tie.Need-loop-holds Inv-loop μ-loop
+loop-holds c = (omega arith, search needs, refl, sets-all (drop 3 (c .args .ws .now)) _ (sym (simp length-drop (omega arith))))
+
+add-regs : tie.Need-add-regs Inv-loop μ-loop
+add-regs c = omega arith
+
+mul-regs : tie.Need-mul-regs Inv-loop μ-loop
+mul-regs c = omega arith
+
+shared-slice-read-regs : tie.Need-shared-slice-read-regs Inv-loop μ-loop
+shared-slice-read-regs c = omega arith
+
+mul-regs-2 : tie.Need-mul-regs-2 Inv-loop μ-loop
+mul-regs-2 c = omega arith
+
+array-write-regs : tie.Need-array-write-regs Inv-loop μ-loop
+array-write-regs c = omega arith
+
+add-i : tie.Need-add-i Inv-loop μ-loop
+add-i c = omega arith
+
+loop-less : tie.Need-loop-less Inv-loop μ-loop
+loop-less c = omega arith
+
+loop-again : tie.Need-loop-again Inv-loop μ-loop
+loop-again c =
+    let l = c .before .before .loop in
+    let ws = c .before .before .before .args .ws .now in (
+      omega arith,
+      l .inv .1,
+      length-set (l .regs) (l .i) _ ∙ l .inv .2,
+      copied (l .regs) ws _ (l .i + 3) (l .i) (l .i + 1 + 3) (l .i + 1) (omega arith) (omega arith) (omega arith) (l .inv .3),
+    )
+
+shared-slice-read-t13 : tie.Need-shared-slice-read-t13 Inv-loop μ-loop
+shared-slice-read-t13 c = omega arith
+
+shared-slice-read-t15 : tie.Need-shared-slice-read-t15 Inv-loop μ-loop
+shared-slice-read-t15 c = omega arith
+
+shared-slice-read-t17 : tie.Need-shared-slice-read-t17 Inv-loop μ-loop
+shared-slice-read-t17 c = omega arith
+
+returns : tie.Need-returns Inv-loop μ-loop
+returns c =
+    let l = c .before .before .before .before .loop in
+    rw (copied-all (l .regs) (c .before .before .before .before .before .args .ws .now) _ (l .i + 3) (l .i) (omega arith) (l .inv .3))
+
+pub hart-of-spec : {M : Type 1} → statement M
+hart-of-spec =
+    tie.close
+    (tie.spec
+    Inv-loop
+    μ-loop
+    loop-holds
+    add-regs
+    mul-regs
+    shared-slice-read-regs
+    mul-regs-2
+    array-write-regs
+    add-i
+    loop-less
+    loop-again
+    shared-slice-read-t13
+    shared-slice-read-t15
+    shared-slice-read-t17
+    returns)

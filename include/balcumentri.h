@@ -1,0 +1,104 @@
+/* Balcumentri: a RISC-V hart with the hypervisor extension, as a proved library.
+ *
+ * Link with target/staticlib/libexports.a, which `rt staticlib exports` makes. The library keeps no state and allocates nothing.
+ *
+ * A slice is a pointer and the number of its words (or bytes). Its pointer is never null, also where the number is 0, and the
+ * slices of one call do not overlap.
+ *
+ * What a call with slices returns:
+ *   BALCUMENTRI_WRITTEN       the result is in out
+ *   BALCUMENTRI_WRONG_LENGTH  a slice has a wrong length; nothing is written
+ *   BALCUMENTRI_WRONG_KIND    (a translation's alone) no kind of access has that number; nothing is written
+ *
+ * A hart, 32 words:
+ *   0  V            1  privilege: 0 U, 1 S, 3 M            2  pc
+ *   3 + place       the register at a place of the table, 0 to 28, in this order: sstatus stvec sscratch sepc scause stval satp;
+ *                   the same seven of VS; mstatus medeleg mtvec mscratch mepc mcause mtval mtinst mtval2; hstatus hedeleg htval
+ *                   htinst hgatp hgeip. sstatus is a view of mstatus and hgeip a constant, so their words are 0.
+ *
+ * An event's result, 34 words:
+ *   0 to 31   the next hart
+ *   32        what the event came to: 0 done, 1 trapped, 2 refused
+ *   33        0, the trap's cause, the refusal's number
+ *
+ * A register access's result, 35 words: the same, and
+ *   34        the value answered, 0 where the access trapped or was refused
+ *
+ * A translation's result, 67 words (the hart stays as it is):
+ *   0         0 an address, 1 a refusal, 2 a fault
+ *   1         the address, the refusal's number, the fault's cause
+ *   2 to 5    the fault's value, second value, instruction word and guest-address flag, else 0
+ *   6         how many entries were read
+ *   7 to 66   fifteen places of four words, in the order of the reads: stage (1 first, 2 second), level, machine address, value;
+ *             unused places are 0
+ */
+#ifndef BALCUMENTRI_H
+#define BALCUMENTRI_H
+
+#include <stdbool.h>
+#include <stddef.h>
+#include <stdint.h>
+
+#ifdef __cplusplus
+extern "C" {
+#endif
+
+#define BALCUMENTRI_WRITTEN 0
+#define BALCUMENTRI_WRONG_LENGTH 1
+#define BALCUMENTRI_WRONG_KIND 2
+
+#define BALCUMENTRI_HART_WORDS 32
+#define BALCUMENTRI_STEP_WORDS 34
+#define BALCUMENTRI_ACCESS_WORDS 35
+#define BALCUMENTRI_TRANSLATION_WORDS 67
+
+#define BALCUMENTRI_FETCH 0
+#define BALCUMENTRI_LOAD 1
+#define BALCUMENTRI_STORE 2
+
+/* What the two lookups answer where there is no such register. */
+#define BALCUMENTRI_NO_PLACE 29
+#define BALCUMENTRI_NO_NUMBER 4096
+
+/* A hart whose registers hold what a write of 0 leaves. out: 32 words. */
+uint64_t balcumentri_reset(uint64_t v, uint64_t privilege, uint64_t pc, uint64_t *out, size_t out_words);
+
+/* Check 2: out[0] is 1 where the hart can be one, else 0. out: 1 word. */
+uint64_t balcumentri_passes(const uint64_t *hart, size_t hart_words, uint64_t *out, size_t out_words);
+
+/* The translation of an access over an image: bytes from the machine address base on. out: 67 words. */
+uint64_t balcumentri_translate(const uint64_t *hart, size_t hart_words, uint64_t base, const uint8_t *bytes, size_t length,
+                               uint64_t kind, uint64_t address, uint64_t width, uint64_t *out, size_t out_words);
+
+/* Register access by number. A set or a clear writes where its flag says so. out: 35 words. */
+uint64_t balcumentri_read(const uint64_t *hart, size_t hart_words, uint64_t number, uint64_t *out, size_t out_words);
+uint64_t balcumentri_write(const uint64_t *hart, size_t hart_words, uint64_t number, uint64_t value, uint64_t *out,
+                           size_t out_words);
+uint64_t balcumentri_set(const uint64_t *hart, size_t hart_words, uint64_t number, uint64_t value, bool writes, uint64_t *out,
+                         size_t out_words);
+uint64_t balcumentri_clear(const uint64_t *hart, size_t hart_words, uint64_t number, uint64_t value, bool writes,
+                           uint64_t *out, size_t out_words);
+
+/* A trap request: a fault that a translation answered, or another cause. out: 34 words. */
+uint64_t balcumentri_trap(const uint64_t *hart, size_t hart_words, uint64_t cause, uint64_t value, uint64_t second,
+                          uint64_t word, bool flag, uint64_t *out, size_t out_words);
+
+/* The instructions ECALL, EBREAK, MRET, SRET, WFI, SFENCE.VMA, HFENCE.VVMA and HFENCE.GVMA. out: 34 words. */
+uint64_t balcumentri_ecall(const uint64_t *hart, size_t hart_words, uint64_t *out, size_t out_words);
+uint64_t balcumentri_ebreak(const uint64_t *hart, size_t hart_words, uint64_t *out, size_t out_words);
+uint64_t balcumentri_mret(const uint64_t *hart, size_t hart_words, uint64_t *out, size_t out_words);
+uint64_t balcumentri_sret(const uint64_t *hart, size_t hart_words, uint64_t *out, size_t out_words);
+uint64_t balcumentri_wfi(const uint64_t *hart, size_t hart_words, uint64_t *out, size_t out_words);
+uint64_t balcumentri_sfence_vma(const uint64_t *hart, size_t hart_words, uint64_t *out, size_t out_words);
+uint64_t balcumentri_hfence_vvma(const uint64_t *hart, size_t hart_words, uint64_t *out, size_t out_words);
+uint64_t balcumentri_hfence_gvma(const uint64_t *hart, size_t hart_words, uint64_t *out, size_t out_words);
+
+/* The place of the register with a number, and the number of the register at a place. */
+uint64_t balcumentri_place(uint64_t number);
+uint64_t balcumentri_number(uint64_t place);
+
+#ifdef __cplusplus
+}
+#endif
+
+#endif

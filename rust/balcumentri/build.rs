@@ -1,0 +1,16 @@
+//! Links the proved library, which `rt staticlib exports` writes into the repository's target/staticlib/.
+
+use std::path::Path;
+
+fn main() {
+    let folder = Path::new(env!("CARGO_MANIFEST_DIR")).join("../../target/staticlib");
+    let library = folder.join("libexports.a");
+    println!("cargo:rerun-if-changed={}", library.display());
+    if library.exists() {
+        println!("cargo:rustc-link-search=native={}", folder.display());
+        println!("cargo:rustc-link-lib=static=exports");
+    } else {
+        eprintln!("target/staticlib/libexports.a is missing: run `rt staticlib exports` at the repository's root");
+        std::process::exit(1);
+    }
+}

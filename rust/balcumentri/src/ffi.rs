@@ -1,0 +1,289 @@
+//! The C face, with the lengths of its slices as types. The only module with `unsafe`.
+//!
+//! Each call's slices have the lengths that the face asks for and do not overlap, so each is taken and writes its result.
+#![allow(unsafe_code)]
+
+/// How many registers the table has.
+pub const REGISTERS: usize = 29;
+
+/// A hart's words.
+pub type HartWords = [u64; 32];
+/// An event's result.
+pub type StepWords = [u64; 34];
+/// A register access's result.
+pub type AccessWords = [u64; 35];
+/// A translation's result.
+pub type TranslationWords = [u64; 67];
+
+/// A call of the face that takes a hart and writes an event's result.
+type Event = unsafe extern "C" fn(*const u64, usize, *mut u64, usize) -> u64;
+
+extern "C" {
+    fn balcumentri_reset(v: u64, privilege: u64, pc: u64, out: *mut u64, size: usize) -> u64;
+    fn balcumentri_passes(hart: *const u64, words: usize, out: *mut u64, size: usize) -> u64;
+    fn balcumentri_translate(
+        hart: *const u64,
+        words: usize,
+        base: u64,
+        bytes: *const u8,
+        length: usize,
+        kind: u64,
+        address: u64,
+        width: u64,
+        out: *mut u64,
+        size: usize,
+    ) -> u64;
+    fn balcumentri_read(
+        hart: *const u64,
+        words: usize,
+        number: u64,
+        out: *mut u64,
+        size: usize,
+    ) -> u64;
+    fn balcumentri_write(
+        hart: *const u64,
+        words: usize,
+        number: u64,
+        value: u64,
+        out: *mut u64,
+        size: usize,
+    ) -> u64;
+    fn balcumentri_set(
+        hart: *const u64,
+        words: usize,
+        number: u64,
+        value: u64,
+        writes: bool,
+        out: *mut u64,
+        size: usize,
+    ) -> u64;
+    fn balcumentri_clear(
+        hart: *const u64,
+        words: usize,
+        number: u64,
+        value: u64,
+        writes: bool,
+        out: *mut u64,
+        size: usize,
+    ) -> u64;
+    fn balcumentri_trap(
+        hart: *const u64,
+        words: usize,
+        cause: u64,
+        value: u64,
+        second: u64,
+        word: u64,
+        flag: bool,
+        out: *mut u64,
+        size: usize,
+    ) -> u64;
+    fn balcumentri_ecall(hart: *const u64, words: usize, out: *mut u64, size: usize) -> u64;
+    fn balcumentri_ebreak(hart: *const u64, words: usize, out: *mut u64, size: usize) -> u64;
+    fn balcumentri_mret(hart: *const u64, words: usize, out: *mut u64, size: usize) -> u64;
+    fn balcumentri_sret(hart: *const u64, words: usize, out: *mut u64, size: usize) -> u64;
+    fn balcumentri_wfi(hart: *const u64, words: usize, out: *mut u64, size: usize) -> u64;
+    fn balcumentri_sfence_vma(hart: *const u64, words: usize, out: *mut u64, size: usize) -> u64;
+    fn balcumentri_hfence_vvma(hart: *const u64, words: usize, out: *mut u64, size: usize) -> u64;
+    fn balcumentri_hfence_gvma(hart: *const u64, words: usize, out: *mut u64, size: usize) -> u64;
+    fn balcumentri_place(number: u64) -> u64;
+    fn balcumentri_number(place: u64) -> u64;
+}
+
+/// A hart whose registers hold what a write of 0 leaves.
+pub fn reset(v: u64, privilege: u64, pc: u64) -> HartWords {
+    let mut out = [0; 32];
+    // SAFETY: out is lent for the call, with its own length.
+    unsafe { balcumentri_reset(v, privilege, pc, out.as_mut_ptr(), out.len()) };
+    out
+}
+
+/// Check 2.
+pub fn passes(hart: &HartWords) -> bool {
+    let mut out = [0; 1];
+    // SAFETY: hart and out are lent for the call, each with its own length; out is a new local, so they do not overlap.
+    unsafe { balcumentri_passes(hart.as_ptr(), hart.len(), out.as_mut_ptr(), out.len()) };
+    out[0] == 1
+}
+
+/// The translation of an access; kind 0 is a fetch, 1 a load, 2 a store.
+pub fn translate(
+    hart: &HartWords,
+    base: u64,
+    bytes: &[u8],
+    kind: u64,
+    address: u64,
+    width: u64,
+) -> TranslationWords {
+    let mut out = [0; 67];
+    // SAFETY: hart, bytes and out are lent for the call, each with its own length; out is a new local, so it overlaps neither.
+    unsafe {
+        balcumentri_translate(
+            hart.as_ptr(),
+            hart.len(),
+            base,
+            bytes.as_ptr(),
+            bytes.len(),
+            kind,
+            address,
+            width,
+            out.as_mut_ptr(),
+            out.len(),
+        )
+    };
+    out
+}
+
+/// Reads a register.
+pub fn read(hart: &HartWords, number: u64) -> AccessWords {
+    let mut out = [0; 35];
+    // SAFETY: as in `passes`.
+    unsafe {
+        balcumentri_read(
+            hart.as_ptr(),
+            hart.len(),
+            number,
+            out.as_mut_ptr(),
+            out.len(),
+        )
+    };
+    out
+}
+
+/// Writes a register.
+pub fn write(hart: &HartWords, number: u64, value: u64) -> AccessWords {
+    let mut out = [0; 35];
+    // SAFETY: as in `passes`.
+    unsafe {
+        balcumentri_write(
+            hart.as_ptr(),
+            hart.len(),
+            number,
+            value,
+            out.as_mut_ptr(),
+            out.len(),
+        )
+    };
+    out
+}
+
+/// Sets bits of a register.
+pub fn set(hart: &HartWords, number: u64, value: u64, writes: bool) -> AccessWords {
+    let mut out = [0; 35];
+    // SAFETY: as in `passes`.
+    unsafe {
+        balcumentri_set(
+            hart.as_ptr(),
+            hart.len(),
+            number,
+            value,
+            writes,
+            out.as_mut_ptr(),
+            out.len(),
+        )
+    };
+    out
+}
+
+/// Clears bits of a register.
+pub fn clear(hart: &HartWords, number: u64, value: u64, writes: bool) -> AccessWords {
+    let mut out = [0; 35];
+    // SAFETY: as in `passes`.
+    unsafe {
+        balcumentri_clear(
+            hart.as_ptr(),
+            hart.len(),
+            number,
+            value,
+            writes,
+            out.as_mut_ptr(),
+            out.len(),
+        )
+    };
+    out
+}
+
+/// A trap request.
+pub fn trap(
+    hart: &HartWords,
+    cause: u64,
+    value: u64,
+    second: u64,
+    word: u64,
+    flag: bool,
+) -> StepWords {
+    let mut out = [0; 34];
+    // SAFETY: as in `passes`.
+    unsafe {
+        balcumentri_trap(
+            hart.as_ptr(),
+            hart.len(),
+            cause,
+            value,
+            second,
+            word,
+            flag,
+            out.as_mut_ptr(),
+            out.len(),
+        )
+    };
+    out
+}
+
+fn event(call: Event, hart: &HartWords) -> StepWords {
+    let mut out = [0; 34];
+    // SAFETY: as in `passes`; call is one of the functions below, all with these four parameters.
+    unsafe { call(hart.as_ptr(), hart.len(), out.as_mut_ptr(), out.len()) };
+    out
+}
+
+/// ECALL.
+pub fn ecall(hart: &HartWords) -> StepWords {
+    event(balcumentri_ecall, hart)
+}
+
+/// EBREAK.
+pub fn ebreak(hart: &HartWords) -> StepWords {
+    event(balcumentri_ebreak, hart)
+}
+
+/// MRET.
+pub fn mret(hart: &HartWords) -> StepWords {
+    event(balcumentri_mret, hart)
+}
+
+/// SRET.
+pub fn sret(hart: &HartWords) -> StepWords {
+    event(balcumentri_sret, hart)
+}
+
+/// WFI.
+pub fn wfi(hart: &HartWords) -> StepWords {
+    event(balcumentri_wfi, hart)
+}
+
+/// SFENCE.VMA.
+pub fn sfence_vma(hart: &HartWords) -> StepWords {
+    event(balcumentri_sfence_vma, hart)
+}
+
+/// HFENCE.VVMA.
+pub fn hfence_vvma(hart: &HartWords) -> StepWords {
+    event(balcumentri_hfence_vvma, hart)
+}
+
+/// HFENCE.GVMA.
+pub fn hfence_gvma(hart: &HartWords) -> StepWords {
+    event(balcumentri_hfence_gvma, hart)
+}
+
+/// The place of the register with a number, or 29.
+pub fn place(number: u64) -> usize {
+    // SAFETY: numbers alone go in and out.
+    unsafe { balcumentri_place(number) as usize }
+}
+
+/// The number of the register at a place, or 4096.
+pub fn number(place: usize) -> u64 {
+    // SAFETY: numbers alone go in and out.
+    unsafe { balcumentri_number(place as u64) }
+}

@@ -1,0 +1,219 @@
+//! The hart and its events.
+
+use crate::ffi::{self, AccessWords, HartWords, StepWords};
+use crate::translation::{Access, Fault, Image, Translation};
+use std::sync::OnceLock;
+
+/// What an event came to.
+#[derive(Clone, Copy, Debug, PartialEq, Eq)]
+pub enum Outcome {
+    /// It was done.
+    Done,
+    /// It trapped with a cause, and the trap was delivered.
+    Trapped(u64),
+    /// It was refused with a number, and the hart is as it was.
+    Refused(u64),
+}
+
+/// What a register access came to, and the value that it answers: the old one, or 0 where it was not done.
+#[derive(Clone, Copy, Debug, PartialEq, Eq)]
+pub struct Accessed {
+    /// Done, trapped or refused.
+    pub outcome: Outcome,
+    /// The value answered.
+    pub value: u64,
+}
+
+/// A hart: V, privilege, pc and the registers. An event leaves the next hart in its place.
+///
+/// ```
+/// use balcumentri::{Hart, Outcome};
+///
+/// let mut hart = Hart::new(0, 3, 0x1000);
+/// assert_eq!(hart.ecall(), Outcome::Trapped(11));
+/// assert_eq!(hart.register(0x341), Some(0x1000));
+/// assert_eq!(hart.read(0x342).value, 11);
+/// ```
+#[derive(Clone, Copy, Debug, PartialEq, Eq)]
+pub struct Hart {
+    words: HartWords,
+}
+
+/// sstatus is a view of mstatus and hgeip a constant: neither is stored.
+const NOT_STORED: [u64; 2] = [0x100, 0xe12];
+
+impl Hart {
+    /// A hart in a mode, each register with what a write of 0 leaves. Any numbers are taken; see [`Hart::passes`].
+    pub fn new(v: u64, privilege: u64, pc: u64) -> Self {
+        Hart {
+            words: ffi::reset(v, privilege, pc),
+        }
+    }
+
+    /// The virtualization mode V.
+    pub fn v(&self) -> u64 {
+        self.words[0]
+    }
+
+    /// The privilege: 0 U, 1 S, 3 M.
+    pub fn privilege(&self) -> u64 {
+        self.words[1]
+    }
+
+    /// The program counter.
+    pub fn pc(&self) -> u64 {
+        self.words[2]
+    }
+
+    /// What the stored register with a number holds.
+    pub fn register(&self, number: u64) -> Option<u64> {
+        index(number).map(|i| self.words[i])
+    }
+
+    /// Gives the stored register with a number exactly this value, by no write rule. False where there is none.
+    ///
+    /// ```
+    /// let mut hart = balcumentri::Hart::new(0, 3, 0);
+    /// assert!(hart.put_register(0x180, 7));
+    /// assert!(!hart.put_register(0x100, 7));
+    /// ```
+    pub fn put_register(&mut self, number: u64, value: u64) -> bool {
+        let found = index(number);
+        if let Some(i) = found {
+            self.words[i] = value;
+        }
+        found.is_some()
+    }
+
+    /// The numbers of the stored registers, rising, each with what it holds.
+    pub fn registers(&self) -> impl Iterator<Item = (u64, u64)> + '_ {
+        stored().iter().map(|&(number, i)| (number, self.words[i]))
+    }
+
+    /// Check 2: whether the model takes the hart.
+    pub fn passes(&self) -> bool {
+        ffi::passes(&self.words)
+    }
+
+    /// The translation of an access over an image.
+    pub fn translate(&self, image: Image<'_>, access: Access) -> Translation {
+        Translation::from_words(&ffi::translate(
+            &self.words,
+            image.base,
+            image.bytes,
+            access.kind.number(),
+            access.address,
+            access.width,
+        ))
+    }
+
+    /// Reads the register with a number.
+    pub fn read(&mut self, number: u64) -> Accessed {
+        self.accessed(ffi::read(&self.words, number))
+    }
+
+    /// Writes it.
+    pub fn write(&mut self, number: u64, value: u64) -> Accessed {
+        self.accessed(ffi::write(&self.words, number, value))
+    }
+
+    /// Sets bits of it, if the access writes.
+    pub fn set(&mut self, number: u64, value: u64, writes: bool) -> Accessed {
+        self.accessed(ffi::set(&self.words, number, value, writes))
+    }
+
+    /// Clears bits of it, if the access writes.
+    pub fn clear(&mut self, number: u64, value: u64, writes: bool) -> Accessed {
+        self.accessed(ffi::clear(&self.words, number, value, writes))
+    }
+
+    /// A trap request.
+    pub fn trap(&mut self, trap: Fault) -> Outcome {
+        let Fault {
+            cause,
+            value,
+            second,
+            word,
+            flag,
+        } = trap;
+        self.stepped(ffi::trap(&self.words, cause, value, second, word, flag))
+    }
+
+    /// ECALL.
+    pub fn ecall(&mut self) -> Outcome {
+        self.stepped(ffi::ecall(&self.words))
+    }
+
+    /// EBREAK.
+    pub fn ebreak(&mut self) -> Outcome {
+        self.stepped(ffi::ebreak(&self.words))
+    }
+
+    /// MRET.
+    pub fn mret(&mut self) -> Outcome {
+        self.stepped(ffi::mret(&self.words))
+    }
+
+    /// SRET.
+    pub fn sret(&mut self) -> Outcome {
+        self.stepped(ffi::sret(&self.words))
+    }
+
+    /// WFI.
+    pub fn wfi(&mut self) -> Outcome {
+        self.stepped(ffi::wfi(&self.words))
+    }
+
+    /// SFENCE.VMA.
+    pub fn sfence_vma(&mut self) -> Outcome {
+        self.stepped(ffi::sfence_vma(&self.words))
+    }
+
+    /// HFENCE.VVMA.
+    pub fn hfence_vvma(&mut self) -> Outcome {
+        self.stepped(ffi::hfence_vvma(&self.words))
+    }
+
+    /// HFENCE.GVMA.
+    pub fn hfence_gvma(&mut self) -> Outcome {
+        self.stepped(ffi::hfence_gvma(&self.words))
+    }
+
+    fn stepped(&mut self, result: StepWords) -> Outcome {
+        self.words.copy_from_slice(&result[..32]);
+        outcome(result[32], result[33])
+    }
+
+    fn accessed(&mut self, result: AccessWords) -> Accessed {
+        self.words.copy_from_slice(&result[..32]);
+        Accessed {
+            outcome: outcome(result[32], result[33]),
+            value: result[34],
+        }
+    }
+}
+
+fn outcome(kind: u64, number: u64) -> Outcome {
+    match kind {
+        0 => Outcome::Done,
+        1 => Outcome::Trapped(number),
+        _ => Outcome::Refused(number),
+    }
+}
+
+/// The stored registers in rising order: the number of each, and where it stands among a hart's words.
+fn stored() -> &'static [(u64, usize)] {
+    static STORED: OnceLock<Vec<(u64, usize)>> = OnceLock::new();
+    STORED.get_or_init(|| {
+        (0..ffi::REGISTERS)
+            .map(|place| (ffi::number(place), 3 + place))
+            .filter(|(number, _)| !NOT_STORED.contains(number))
+            .collect()
+    })
+}
+
+/// Where a stored register stands among a hart's words.
+fn index(number: u64) -> Option<usize> {
+    let at = stored().binary_search_by_key(&number, |&(number, _)| number);
+    at.ok().map(|at| stored()[at].1)
+}

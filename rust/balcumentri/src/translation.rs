@@ -1,0 +1,124 @@
+//! Translations: what goes in, and what comes back.
+
+use crate::ffi::TranslationWords;
+
+/// A run of bytes from a machine address on. The model reads it and never writes it.
+#[derive(Clone, Copy, Debug)]
+pub struct Image<'a> {
+    /// The machine address of the first byte.
+    pub base: u64,
+    /// The bytes.
+    pub bytes: &'a [u8],
+}
+
+/// The kinds of access.
+#[derive(Clone, Copy, Debug, PartialEq, Eq)]
+pub enum Kind {
+    /// An instruction fetch.
+    Fetch,
+    /// A load.
+    Load,
+    /// A store.
+    Store,
+}
+
+/// An access: its kind, virtual address and width in bytes.
+#[derive(Clone, Copy, Debug, PartialEq, Eq)]
+pub struct Access {
+    /// Fetch, load or store.
+    pub kind: Kind,
+    /// The virtual address.
+    pub address: u64,
+    /// How many bytes; the model refuses other than 1, 2, 4 and 8.
+    pub width: u64,
+}
+
+/// A fault, which is also a trap request.
+#[derive(Clone, Copy, Debug, PartialEq, Eq)]
+pub struct Fault {
+    /// The cause's number.
+    pub cause: u64,
+    /// The value: the virtual address.
+    pub value: u64,
+    /// The second value: a guest physical address shifted right by 2.
+    pub second: u64,
+    /// The instruction word.
+    pub word: u64,
+    /// The guest-address flag.
+    pub flag: bool,
+}
+
+/// What a translation answers.
+#[derive(Clone, Copy, Debug, PartialEq, Eq)]
+pub enum Answer {
+    /// The machine address.
+    Address(u64),
+    /// The number of a refusal.
+    Refused(u64),
+    /// A fault.
+    Fault(Fault),
+}
+
+/// A page-table entry that was read.
+#[derive(Clone, Copy, Debug, PartialEq, Eq)]
+pub struct Read {
+    /// 1 for the first stage, 2 for the second.
+    pub stage: u64,
+    /// The level, 2 at the top.
+    pub level: u64,
+    /// The entry's machine address.
+    pub address: u64,
+    /// The entry.
+    pub value: u64,
+}
+
+/// A translation: the answer, and the entries read for it.
+#[derive(Clone, Copy, Debug)]
+pub struct Translation {
+    /// The answer.
+    pub answer: Answer,
+    places: [Read; 15],
+    count: usize,
+}
+
+impl Translation {
+    /// The entries, in the order in which they were read.
+    pub fn reads(&self) -> &[Read] {
+        &self.places[..self.count]
+    }
+
+    pub(crate) fn from_words(words: &TranslationWords) -> Self {
+        let [kind, number, value, second, word, flag, count, places @ ..] = words;
+        let answer = match kind {
+            0 => Answer::Address(*number),
+            1 => Answer::Refused(*number),
+            _ => Answer::Fault(Fault {
+                cause: *number,
+                value: *value,
+                second: *second,
+                word: *word,
+                flag: *flag == 1,
+            }),
+        };
+        Translation {
+            answer,
+            places: std::array::from_fn(|i| Read {
+                stage: places[4 * i],
+                level: places[4 * i + 1],
+                address: places[4 * i + 2],
+                value: places[4 * i + 3],
+            }),
+            count: (*count as usize).min(15),
+        }
+    }
+}
+
+impl Kind {
+    pub(crate) fn number(self) -> u64 {
+        match self {
+            Kind::Fetch => 0,
+            Kind::Load => 1,
+            Kind::Store => 2,
+        }
+    }
+}

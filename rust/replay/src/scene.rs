@@ -1,0 +1,89 @@
+//! The scene of a script: an image and a hart.
+
+use balcumentri::{Hart, Image};
+use std::fs::File;
+use std::io::Read;
+use std::path::Path;
+
+/// The largest image that is held, in bytes: 1 GiB.
+const LARGEST: u64 = 0x4000_0000;
+
+/// The image and the hart that the events meet.
+pub struct Scene {
+    base: u64,
+    bytes: Vec<u8>,
+    pub hart: Hart,
+}
+
+impl Scene {
+    /// Before the first line: an empty image, and a hart in M at 0.
+    pub fn new() -> Self {
+        Scene {
+            base: 0,
+            bytes: Vec::new(),
+            hart: Hart::new(0, 3, 0),
+        }
+    }
+
+    pub fn image(&self) -> Image<'_> {
+        Image {
+            base: self.base,
+            bytes: &self.bytes,
+        }
+    }
+
+    /// A new image of zero bytes.
+    pub fn clear_image(&mut self, base: u64, length: u64) -> Result<(), String> {
+        self.bytes = Vec::new();
+        let size = usize::try_from(length).unwrap_or(usize::MAX);
+        if length > LARGEST || Vec::<u8>::new().try_reserve_exact(size).is_err() {
+            return Err(format!(
+                "an image of {length:x} bytes is more than this program holds"
+            ));
+        }
+        self.base = base;
+        self.bytes = vec![0; size];
+        Ok(())
+    }
+
+    /// A new image: the bytes of a file.
+    pub fn load_image(&mut self, base: u64, path: &Path) -> Result<(), String> {
+        let unreadable = |error| format!("{} can't be read: {error}", path.display());
+        let mut bytes = Vec::new();
+        let file = File::open(path).map_err(unreadable)?;
+        file.take(LARGEST + 1)
+            .read_to_end(&mut bytes)
+            .map_err(unreadable)?;
+        if bytes.len() as u64 > LARGEST {
+            return Err(format!(
+                "{} is more than this program holds",
+                path.display()
+            ));
+        }
+        self.base = base;
+        self.bytes = bytes;
+        Ok(())
+    }
+
+    /// Eight bytes, little-endian, at a machine address.
+    pub fn put(&mut self, address: u64, value: u64) -> Result<(), String> {
+        let eight = address
+            .checked_sub(self.base)
+            .and_then(|offset| usize::try_from(offset).ok())
+            .and_then(|offset| self.bytes.get_mut(offset..)?.first_chunk_mut());
+        match eight {
+            Some(eight) => *eight = value.to_le_bytes(),
+            None => return Err(format!("eight bytes at {address:x} don't lie in the image")),
+        }
+        Ok(())
+    }
+
+    /// A stored register holds a value.
+    pub fn hold(&mut self, number: u64, value: u64) -> Result<(), String> {
+        if self.hart.put_register(number, value) {
+            Ok(())
+        } else {
+            Err(format!("{number:x} is the number of no stored register"))
+        }
+    }
+}

@@ -1,0 +1,171 @@
+//! The program itself: answers, bad scripts, exit status.
+
+use std::io::Write;
+use std::process::{Command, Output, Stdio};
+
+fn replay(arguments: &[&str], script: &[u8]) -> Output {
+    let mut child = Command::new(env!("CARGO_BIN_EXE_replay"))
+        .args(arguments)
+        .stdin(Stdio::piped())
+        .stdout(Stdio::piped())
+        .stderr(Stdio::piped())
+        .spawn()
+        .expect("the program starts");
+    let mut stdin = child.stdin.take().expect("standard input is a pipe");
+    // a program that ends at a bad line may close its input first
+    let _ = stdin.write_all(script);
+    drop(stdin);
+    child.wait_with_output().expect("the program ends")
+}
+
+fn answers(script: &[u8]) -> String {
+    String::from_utf8(replay(&[], script).stdout).expect("answers are text")
+}
+
+/// The line that is bad, if any.
+fn bad(script: &[u8]) -> Option<String> {
+    let output = replay(&[], script);
+    let text = String::from_utf8(output.stdout).expect("answers are text");
+    let error = text
+        .lines()
+        .last()
+        .and_then(|line| line.strip_prefix("error "));
+    assert_eq!(output.status.code(), Some(i32::from(error.is_some())));
+    assert_eq!(output.stderr.is_empty(), error.is_none());
+    error.map(str::to_owned)
+}
+
+#[test]
+fn nothing_answers_nothing() {
+    assert_eq!(answers(b""), "");
+    assert_eq!(answers(b"\n  # a comment\n\r\t\n"), "");
+}
+
+#[test]
+fn events_are_answered() {
+    assert_eq!(answers(b"read 300\n"), "value a00000000\n");
+    assert_eq!(answers(b"read FFF\nread 342\n"), "value 0\nvalue 2\n");
+    assert_eq!(answers(b"read 1000"), "refused 5\n");
+    assert_eq!(answers(b"hart 1 1 0\necall\n"), "ok\n");
+    assert_eq!(answers(b"load 0 8\n"), "fault 5 0 0 0 0\n");
+    assert_eq!(answers(b"load 1 8\n"), "fault 4 1 0 0 0\n");
+    assert_eq!(answers(b"hart 7 1 0\nload 0 8\n"), "refused 2\n");
+}
+
+#[test]
+fn what_show_writes_is_a_script() {
+    let shown = answers(b"hart 1 1 1234\nreg 200 5\nreg 680 7\nshow\n");
+    assert!(shown.starts_with("hart 1 1 1234\nreg 105 0\n"));
+    assert_eq!(answers(format!("{shown}show\n").as_bytes()), shown);
+}
+
+#[test]
+fn a_comment_starts_anywhere_but_in_a_path() {
+    assert_eq!(answers(b"read 300#\xff\n"), "value a00000000\n");
+    assert_eq!(bad(b"file 0#x\n"), Some("1".to_owned()));
+    assert_eq!(
+        bad(b"file 0 #there-is-no-such-file\n"),
+        Some("1".to_owned())
+    );
+}
+
+#[test]
+fn bad_lines_end_the_run() {
+    for line in [
+        "Load 0 8",
+        "load 0",
+        "load 0 8 0",
+        "load 0x0 8",
+        "load 00000000000000000 8",
+        "load +1 8",
+        "set 300 0 2",
+        "trap 2 0 0 0 10",
+        "put 0 0",
+        "reg 100 0",
+        "reg e12 0",
+        "reg 123 0",
+        "file 0",
+        "file 0 .",
+        "image 0 1000000000000000",
+        "\u{feff}show",
+        "show\u{b}",
+    ] {
+        let script = format!("# first\n{line}\nshow\n");
+        assert_eq!(bad(script.as_bytes()), Some("2".to_owned()), "{line}");
+    }
+}
+
+#[test]
+fn a_put_lies_whole_in_the_image() {
+    assert_eq!(bad(b"image 1000 10\nput 1008 1\n"), None);
+    assert_eq!(bad(b"image 1000 10\nput 1009 1\n"), Some("2".to_owned()));
+    assert_eq!(bad(b"image 1000 10\nput fff 1\n"), Some("2".to_owned()));
+    assert_eq!(
+        bad(b"image fffffffffffffff0 20\nput fffffffffffffff8 1\n"),
+        None
+    );
+    assert_eq!(
+        bad(b"image fffffffffffffff0 20\nput 0 1\n"),
+        Some("2".to_owned())
+    );
+}
+
+#[test]
+fn explanations_are_comments() {
+    let script =
+        b"hart 1 1 0\nreg 680 8000000000000000\nload 40 8\necall\nread 100\nshow\nload 1 3\n";
+    let explained = replay(&["--explain"], script).stdout;
+    let plain: String = String::from_utf8(explained)
+        .expect("answers are text")
+        .lines()
+        .filter(|line| !line.starts_with("# "))
+        .map(|line| format!("{line}\n"))
+        .collect();
+    assert_eq!(plain, answers(script));
+}
+
+#[test]
+fn wrong_command_lines_and_unreadable_scripts() {
+    for arguments in [&["-x"][..], &["a", "b"], &["there-is-no-such-file"], &["."]] {
+        let output = replay(arguments, b"");
+        assert_eq!(output.status.code(), Some(2), "{arguments:?}");
+        assert!(output.stdout.is_empty());
+        assert!(output.stderr.starts_with(b"replay: "));
+    }
+}
+
+#[test]
+fn help_is_written() {
+    let output = replay(&["--help"], b"");
+    assert_eq!(output.status.code(), Some(0));
+    assert!(output.stdout.starts_with(b"replay: "));
+}
+
+/// Bytes that are no script, and scripts with bytes changed: the program ends by itself with status 0 or 1.
+#[test]
+fn any_bytes_are_taken() {
+    let mut state = 1_u64;
+    let mut random = move || {
+        state = state
+            .wrapping_mul(6364136223846793005)
+            .wrapping_add(1442695040888963407);
+        (state >> 33) as usize
+    };
+    let script = b"image 0 2000\nput 8 20000401\nhart 1 1 0\nreg 680 8000000000000000\nload 8 8\nset 100 ff 1\ntrap d 0 0 0 1\nshow\n";
+    for round in 0..150 {
+        let mut bytes: Vec<u8> = script.to_vec();
+        if round % 3 == 0 {
+            bytes = (0..random() % 200).map(|_| random() as u8).collect();
+        }
+        for _ in 0..random() % 4 {
+            if !bytes.is_empty() {
+                let at = random() % bytes.len();
+                bytes[at] = random() as u8;
+            }
+        }
+        for arguments in [&[][..], &["--explain"]] {
+            let status = replay(arguments, &bytes).status.code();
+            assert!(matches!(status, Some(0 | 1)), "{status:?} {bytes:?}");
+        }
+    }
+}
