@@ -1,6 +1,6 @@
 // What an event comes to, and the order in which it is settled.
 ghost use mathlib.Core.Path.{_≡_};
-ghost use Rattle.hart.specs.Event.{trapped, raised, settled, done, moved};
+ghost use Rattle.hart.specs.Event.{trapped, raised, settled, moved};
 use crate::state::Hart;
 use privilege::mode::Verdict;
 use traps::Trap;

@@ -1,5 +1,5 @@
 -- Demand 3 of every translation, for every hart, image and access: refused, misaligned or walked. Assumes nothing.
-use mathlib.Core.Path.{_≡_, refl, sym, ap, _∙_}
+use mathlib.Core.Path.{_≡_, refl, sym, ap, subst, _∙_}
 use mathlib.Core.Bool.{Bool, true, false, not}
 use mathlib.Core.List.{List, [], _∷_, _++_}
 use Prim.Native.Nat.{ℕ, suc, _+_, _-_, _*_, _<_, _≤_}
@@ -28,7 +28,7 @@ use Rattle.translate.specs.declared.Answer.{Answer}
 use Rattle.translate.specs.declared.Translated.{Translated}
 use Rattle.translate.specs.Effective.{accessOf}
 use Rattle.translate.specs.Translated.{unsupported, misaligned, answer, unwalked, walkedTo, translated}
-use Rattle.translate.proofs.Accesses.{tables-of}
+use Rattle.translate.proofs.Accesses.{Aligned, aligned, tables-of}
 
 -- the items listed: the places up to the count
 abbrev pub listed : Translated → List Read
@@ -61,13 +61,13 @@ module _ (h : Hart) (base : ℕ) (bytes : List ℕ) (kind : Kind) (address width
     misaligned-by : AtOnce (Answer.Fault (misalignment a))
 
   -- what holds of these and of the walk holds of every translation
-  each : (P : Translated → Type 0) → ((x : Answer) → AtOnce x → P (unwalked h x)) → P (walkedTo h ran) → P t
+  each : (P : Translated → Type 0) → ((x : Answer) → AtOnce x → P (unwalked h x)) → (Aligned address width → P (walkedTo h ran)) → P t
   unfolding translated
   each P u w =
       pick-both P (not (passes h)) _ _ (λ e. u (Answer.Refused 2) (refused 2))
       (λ e. pick-both P (unfit base (length bytes)) _ _ (λ e. u (Answer.Refused 1) (refused 1))
       (λ e. pick-both P (unsupported kind address width) _ _ (λ e. u (Answer.Refused 3) (refused 3))
-      (λ e. pick-both P (misaligned kind address width) _ _ (λ e. u (Answer.Fault (misalignment a)) misaligned-by) (λ e. w))))
+      (λ p. pick-both P (misaligned kind address width) _ _ (λ e. u (Answer.Fault (misalignment a)) misaligned-by) (λ q. w (aligned kind address width p q)))))
 
   -- ---- answer and list are those of the walk
 
@@ -77,11 +77,11 @@ module _ (h : Hart) (base : ℕ) (bytes : List ℕ) (kind : Kind) (address width
 
   -- the hart is handed back as it was
   pub same-hart : t .hart ≡ h
-  same-hart = each (λ (x : Translated). x .hart ≡ h) (λ x e. refl) refl
+  same-hart = each (λ (x : Translated). x .hart ≡ h) (λ x e. refl) (λ k. refl)
 
   -- n first-stage levels over m second-stage levels: at most (n + 1) (m + 1) - 1 reads; a stage that is off has none
   pub count-bound : t .count ≤ a .first .levels * suc (a .second .levels) + a .second .levels
-  count-bound = each (λ (x : Translated). x .count ≤ a .first .levels * suc (a .second .levels) + a .second .levels) (λ x e. omega arith) (at-most a base (length bytes) (look base bytes))
+  count-bound = each (λ (x : Translated). x .count ≤ a .first .levels * suc (a .second .levels) + a .second .levels) (λ x e. omega arith) (λ k. at-most a base (length bytes) (look base bytes))
 
   pub both-stages : t .count ≤ 15
   both-stages =
@@ -100,24 +100,27 @@ module _ (h : Hart) (base : ℕ) (bytes : List ℕ) (kind : Kind) (address width
 
   -- the places beyond the count are zero
   pub beyond-count : drop (t .count) (t .reads) ≡ unused (places - t .count)
-  beyond-count = each (λ (x : Translated). drop (x .count) (x .reads) ≡ unused (places - x .count)) (λ x e. refl) (drop-append-seam (ran .reads) (unused (places - length (ran .reads))))
+  beyond-count = each (λ (x : Translated). drop (x .count) (x .reads) ≡ unused (places - x .count)) (λ x e. refl) (λ k. drop-append-seam (ran .reads) (unused (places - length (ran .reads))))
 
   -- ---- with the second stage on
 
   module _ (on : 0 < a .second .levels) where
-    -- each guest entry listed lies on a page that a second-stage walk standing directly before it let through with R and U
-    pub guest-entries : (earlier : List Read) (x : Read) (later : List Read) → listed t ≡ earlier ++ (x ∷ later) → x .stage ≡ 1 → EndsThrough (a .second) entryNeed earlier (x .address)
+    -- the eight bytes of each guest entry listed lie on a page that a second-stage walk standing directly before it let through with R and U
+    pub guest-entries : (earlier : List Read) (x : Read) (later : List Read) → listed t ≡ earlier ++ (x ∷ later) → x .stage ≡ 1 → EndsThrough (a .second) entryNeed earlier (x .address) 8
+    unfolding accessOf
     guest-entries earlier x later e one =
-        each (λ (r : Translated). listed r ≡ earlier ++ (x ∷ later) → EndsThrough (a .second) entryNeed earlier (x .address)) (λ y u q. not-empty earlier x later q)
-        (λ q. guest-entry (look base bytes) base (length bytes) a on earlier x later (sym (listed-walk h ran) ∙ q) one) e
+        each (λ (r : Translated). listed r ≡ earlier ++ (x ∷ later) → EndsThrough (a .second) entryNeed earlier (x .address) 8) (λ y u q. not-empty earlier x later q)
+        (λ k q. guest-entry (look base bytes) base (length bytes) a on (k .k) (k .small) (k .multiple) earlier x later (sym (listed-walk h ran) ∙ q) one) e
 
-    -- an address answered lies on a page that the second-stage walk ending the list let through with the access's own right and U
-    pub answer-let-through : (m : Machine) → t .answer ≡ Answer.Address m → EndsThrough (a .second) (secondNeed a) (listed t) m
+    -- the bytes of the access at an address answered lie on a page that the second-stage walk ending the list let through with its own right and U
+    pub answer-let-through : (m : Machine) → t .answer ≡ Answer.Address m → EndsThrough (a .second) (secondNeed a) (listed t) m width
+    unfolding accessOf
     answer-let-through m e =
-        each (λ (r : Translated). r .answer ≡ Answer.Address m → EndsThrough (a .second) (secondNeed a) (listed r) m) at-once
-        (λ q. rw (listed-walk h ran) (answer-page (look base bytes) base (length bytes) a on m (address-yielded (ran .end) m q))) e
+        each (λ (r : Translated). r .answer ≡ Answer.Address m → EndsThrough (a .second) (secondNeed a) (listed r) m width) at-once
+        (λ k q. rw (listed-walk h ran)
+        (subst (λ (n : ℕ). EndsThrough (a .second) (secondNeed a) (ran .reads) m n) (sym (k .size)) (answer-page (look base bytes) base (length bytes) a on (k .k) (k .small) (k .multiple) m (address-yielded (ran .end) m q)))) e
       where
-        at-once : (x : Answer) → AtOnce x → x ≡ Answer.Address m → EndsThrough (a .second) (secondNeed a) (listed (unwalked h x)) m
+        at-once : (x : Answer) → AtOnce x → x ≡ Answer.Address m → EndsThrough (a .second) (secondNeed a) (listed (unwalked h x)) m width
         at-once x (refused n) q = clash (cc)
         at-once x misaligned-by q = clash (cc)
 

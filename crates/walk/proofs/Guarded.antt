@@ -2,12 +2,11 @@
 use mathlib.Core.Path.{_≡_, refl, sym, ap, subst, _∙_}
 use mathlib.Core.Bool.{Bool, true, false, _&&_, _||_}
 use mathlib.Core.List.{List, [], _∷_, _++_, append-nil, append-assoc}
-use Prim.Native.Nat.{ℕ, zero, suc, _+_, _-_, _*_, _<_}
+use Prim.Native.Nat.{ℕ, zero, suc, _+_, _-_, _*_, _%_, _^_, _<_, _≤_}
 use mathlib.Core.Logic.{_⊎_, inl, inr, ⊎-elim}
 use native.Mathlib.Omega.{arith}
-use Rattle.bits.specs.Field.{pick, get, has}
-use Rattle.bits.proofs.Bools.{clash, and-left, and-right}
-use Rattle.bits.proofs.Fields.{get-lt}
+use Rattle.bits.specs.Field.{pick, has}
+use Rattle.bits.proofs.Bools.{and-left, and-right}
 use Rattle.image.specs.declared.Entry.{Entry}
 use Rattle.image.specs.declared.Entry.the-variants.{Value, Outside}
 use Rattle.image.specs.Image.{within}
@@ -19,18 +18,16 @@ use Rattle.rules.specs.declared.Need.{Need}
 use Rattle.rules.specs.declared.Verdict.{Verdict}
 use Rattle.rules.specs.declared.Verdict.the-variants.{Pointer, Leaf, Bad}
 use Rattle.rules.specs.Address.{wellFormed, first, second}
-use Rattle.rules.specs.Entry.{R, X, pointer, reached, granted, target, offset, judged}
+use Rattle.rules.specs.Entry.{R, X, pointer, reached, granted, target, judged}
 use Rattle.rules.specs.Faults.{accessFault, entryFault, guestPageFault, firstNeed, secondNeed, entryNeed}
 use Rattle.rules.proofs.Verdicts.{is-pointer, is-leaf, leaf-right}
 use Rattle.walk.specs.declared.Read.{Read}
 use Rattle.walk.specs.Tree.{Walk, done, ask, bind, item, Ran, listed, found, run}
 use Rattle.walk.specs.Stages.{Outcome, yields, faults, onward, _then_, Translation, slot, follow, inspect, down, begin, translation, guest, machine, second-of, first-of, last, final, walkOf}
-use Rattle.walk.specs.Through.{secondItem, Descent, at-leaf, by-pointer, OnPage, LetThrough, EndsThrough}
+use Rattle.walk.specs.Through.{secondItem, Descent, at-leaf, by-pointer, LetThrough, EndsThrough}
 use Rattle.walk.proofs.Places.{begin-at}
 use Rattle.walk.proofs.Runs.{run-bind}
-
-never : {A : Type 0} {P : Type 0} (f : Fault) (x : A) → _≡_ {A = Outcome A} (faults f) (yields x) → P
-never f x e = clash (cc)
+use Rattle.walk.proofs.Offsets.{never, room, keeps-low}
 
 -- ---- a second stage that yields an address has let it through
 
@@ -80,12 +77,10 @@ module _ (look : Machine → Entry) (a : Access) (n : Need) (f : Fault) (g : Gue
   descended zero table m h = visited zero table m (λ x. done (faults f)) (λ x q. never f m q) h
   descended (suc l) table m h = visited (suc l) table m (down t l) (λ x q. descended l x m q) h
 
-  on-page : (leaf : Read) (m : Machine) → m .0 ≡ target (leaf .value) + get (offset (leaf .level)) (g .0) → OnPage leaf m
-  on-page leaf m e = record { from = omega arith; to = omega (arith, get-lt (offset (leaf .level)) (g .0)) }
-
   -- what a leaf that yields an address tells
-  from-found : n .user ≡ true → (m : Machine) (xs : List Read) → Found (a .second .levels - 1) (a .second .ppn * 4096) xs m → LetThrough (a .second) n xs m
-  from-found u m xs k =
+  from-found : n .user ≡ true → (k : ℕ) → k ≤ 12 → g .0 % 2 ^ k ≡ 0 → (m : Machine) (xs : List Read) → Found (a .second .levels - 1) (a .second .ppn * 4096) xs m
+      → LetThrough (a .second) n xs m (2 ^ k)
+  from-found u size small aligned m xs k =
       let leaf = k .leaf in
       let i = is-leaf n (leaf .level) (g .0) (leaf .value) (m .0) (k .yielded) in
       let r = leaf-right n (leaf .level) (leaf .value) (i .good) (i .leaf) in
@@ -96,21 +91,21 @@ module _ (look : Machine → Entry) (a : Access) (n : Need) (f : Fault) (g : Gue
         passed = i .good;
         user = rw u at (and-left (reached n (leaf .value)) (granted n (leaf .value)) r);
         right = and-right (reached n (leaf .value)) (granted n (leaf .value)) r;
-        page = on-page leaf m (i .to);
+        page = record { from = omega (arith, i .to); to = omega (arith, i .to, room (leaf .level) (g .0) size small aligned) };
       }
 
   -- the second stage, on, has let through what it yields
-  pub let-through : 0 < a .second .levels → n .user ≡ true → (m : Machine) → run look (translation (second-of a n f g)) .end ≡ yields m
-      → LetThrough (a .second) n (run look (translation (second-of a n f g)) .reads) m
+  pub let-through : 0 < a .second .levels → n .user ≡ true → (k : ℕ) → k ≤ 12 → g .0 % 2 ^ k ≡ 0 → (m : Machine) → run look (translation (second-of a n f g)) .end ≡ yields m
+      → LetThrough (a .second) n (run look (translation (second-of a n f g)) .reads) m (2 ^ k)
   unfolding run
-  let-through p u m h =
+  let-through p u k small aligned m h =
       rw (begin-at t (a .second .levels) p) (go (wellFormed second (a .second .levels) (g .0)) (rw (begin-at t (a .second .levels) p) at h))
     where
       root : Walk (Outcome Machine)
       root = down t (a .second .levels - 1) (a .second .ppn * 4096)
 
-      go : (b : Bool) → run look (pick b root (done (faults f))) .end ≡ yields m → LetThrough (a .second) n (run look (pick b root (done (faults f))) .reads) m
-      go true q = from-found u m (run look root .reads) (descended (a .second .levels - 1) (a .second .ppn * 4096) m q)
+      go : (b : Bool) → run look (pick b root (done (faults f))) .end ≡ yields m → LetThrough (a .second) n (run look (pick b root (done (faults f))) .reads) m (2 ^ k)
+      go true q = from-found u k small aligned m (run look root .reads) (descended (a .second .levels - 1) (a .second .ppn * 4096) m q)
       go false q = never f m q
 
 -- ---- the items of a second-stage walk are all of the second stage
@@ -170,17 +165,17 @@ module _ (a : Access) (n : Need) (f : Fault) (g : Guest) where
 
 data Guarded (a : Access) : List Read → Type 0 where
   plain : (ws : List Read) → All 2 ws → Guarded a ws
-  before : (ws : List Read) (x : Read) (xs : List Read) → All 2 ws → LetThrough (a .second) entryNeed ws (x .address) → Guarded a xs → Guarded a (ws ++ (x ∷ xs))
+  before : (ws : List Read) (x : Read) (xs : List Read) → All 2 ws → LetThrough (a .second) entryNeed ws (x .address) 8 → Guarded a xs → Guarded a (ws ++ (x ∷ xs))
 
 guarded-more : (a : Access) {xs : List Read} (ys : List Read) → Guarded a xs → All 2 ys → Guarded a (xs ++ ys)
 guarded-more a ys (plain ws h) k = plain (ws ++ ys) (all-append 2 ws ys h k)
 guarded-more a ys (before ws x xs h l r) k = rw (append-assoc ws (x ∷ xs) ys) (before ws x (xs ++ ys) h l (guarded-more a ys r k))
 
 module _ (look : Machine → Entry) (a : Access) (on : 0 < a .second .levels) where
-  guarded-visit : (level x : ℕ) (next : ℕ → Walk (Outcome Guest)) → ((y : ℕ) → Guarded a (run look (next y) .reads))
+  guarded-visit : (level x : ℕ) → x % 8 ≡ 0 → (next : ℕ → Walk (Outcome Guest)) → ((y : ℕ) → y % 8 ≡ 0 → Guarded a (run look (next y) .reads))
       → Guarded a (run look (first-of a .through x then inspect (first-of a) level next) .reads)
   unfolding run inspect follow
-  guarded-visit level x next sub = rw (run-bind look w (onward (inspect (first-of a) level next))) (go (run look w .end) refl)
+  guarded-visit level x aligned next sub = rw (run-bind look w (onward (inspect (first-of a) level next))) (go (run look w .end) refl)
     where
       w : Walk (Outcome Machine)
       w = translation (second-of a entryNeed (entryFault a (guest x)) (guest x))
@@ -194,24 +189,24 @@ module _ (look : Machine → Entry) (a : Access) (on : 0 < a .second .levels) wh
       alone : Guarded a (ws ++ [])
       alone = rw append-nil (plain ws second-only)
 
-      judge : (d : Verdict) → Guarded a (run look (follow (first-of a) d next) .reads)
-      judge Bad = plain [] tt
-      judge (Leaf y) = plain [] tt
-      judge (Pointer y) = sub y
+      judge : (v : ℕ) (d : Verdict) → judged (firstNeed a) level (a .address) v ≡ d → Guarded a (run look (follow (first-of a) d next) .reads)
+      judge v Bad j = plain [] tt
+      judge v (Leaf y) j = plain [] tt
+      judge v (Pointer y) j = sub y (omega (arith, is-pointer (firstNeed a) level (a .address) v y j .to))
 
-      entry : (m : Machine) → LetThrough (a .second) entryNeed ws m → (e : Entry)
+      entry : (m : Machine) → LetThrough (a .second) entryNeed ws m 8 → (e : Entry)
           → Guarded a (ws ++ found e (run look (done (faults (first-of a .outside)))) (λ v. listed (item 1 level m v) (run look (follow (first-of a) (judged (firstNeed a) level (a .address) v) next))) .reads)
       entry m l Outside = alone
-      entry m l (Value v) = before ws (item 1 level m v) _ second-only l (judge (judged (firstNeed a) level (a .address) v))
+      entry m l (Value v) = before ws (item 1 level m v) _ second-only l (judge v (judged (firstNeed a) level (a .address) v) refl)
 
       go : (o : Outcome Machine) → run look w .end ≡ o → Guarded a (ws ++ run look (onward (inspect (first-of a) level next) o) .reads)
       go (faults f) e = alone
-      go (yields m) e = entry m (let-through look a entryNeed (entryFault a (guest x)) (guest x) on refl m e) (look m)
+      go (yields m) e = entry m (let-through look a entryNeed (entryFault a (guest x)) (guest x) on refl 3 (omega arith) aligned m e) (look m)
 
-  guarded-down : (level table : ℕ) → Guarded a (run look (down (first-of a) level table) .reads)
+  guarded-down : (level table : ℕ) → table % 8 ≡ 0 → Guarded a (run look (down (first-of a) level table) .reads)
   unfolding down run
-  guarded-down zero table = guarded-visit zero (slot (first-of a) zero table) (λ x. done (faults (first-of a .fault))) (λ x. plain [] tt)
-  guarded-down (suc l) table = guarded-visit (suc l) (slot (first-of a) (suc l) table) (down (first-of a) l) (guarded-down l)
+  guarded-down zero table aligned = guarded-visit zero (slot (first-of a) zero table) (omega arith) (λ x. done (faults (first-of a .fault))) (λ x e. plain [] tt)
+  guarded-down (suc l) table aligned = guarded-visit (suc l) (slot (first-of a) (suc l) table) (omega arith) (down (first-of a) l) (guarded-down l)
 
   guarded-begin : (levels : ℕ) → Guarded a (run look (begin (first-of a) levels) .reads)
   unfolding begin run
@@ -219,18 +214,19 @@ module _ (look : Machine → Entry) (a : Access) (on : 0 < a .second .levels) wh
   guarded-begin (suc l) = go (wellFormed first (suc l) (a .address))
     where
       go : (b : Bool) → Guarded a (run look (pick b (down (first-of a) l (a .first .ppn * 4096)) (done (faults (first-of a .fault)))) .reads)
-      go true = guarded-down l (a .first .ppn * 4096)
+      go true = guarded-down l (a .first .ppn * 4096) (omega arith)
       go false = plain [] tt
 
-  module _ (base len : ℕ) where
+  -- an access of 2 ^ k bytes, aligned
+  module _ (base len k : ℕ) (small : k ≤ 12) (aligned : a .address % 2 ^ k ≡ 0) where
     -- the access itself: only second-stage items, and an answer was let through
     record Final (xs : List Read) (o : Outcome Machine) : Type 0 where
       only : All 2 xs
-      through : (m : Machine) → o ≡ yields m → LetThrough (a .second) (secondNeed a) xs m
+      through : (m : Machine) → o ≡ yields m → LetThrough (a .second) (secondNeed a) xs m (2 ^ k)
 
-    final-through : (g : Guest) → Final (run look (final base len a g) .reads) (run look (final base len a g) .end)
+    final-through : (g : Guest) → g .0 % 2 ^ k ≡ 0 → Final (run look (final base len a g) .reads) (run look (final base len a g) .end)
     unfolding final run last
-    final-through g = rw (run-bind look w (onward (λ m. done (last base len a m)))) (go (run look w .end) refl)
+    final-through g even = rw (run-bind look w (onward (λ m. done (last base len a m)))) (go (run look w .end) refl)
       where
         w : Walk (Outcome Machine)
         w = translation (second-of a (secondNeed a) (guestPageFault a g) g)
@@ -238,22 +234,22 @@ module _ (look : Machine → Entry) (a : Access) (on : 0 < a .second .levels) wh
         ws : List Read
         ws = run look w .reads
 
-        conclude : (m : Machine) → LetThrough (a .second) (secondNeed a) ws m → (b : Bool) → Final (ws ++ []) (pick b (yields m) (faults (accessFault a)))
+        conclude : (m : Machine) → LetThrough (a .second) (secondNeed a) ws m (2 ^ k) → (b : Bool) → Final (ws ++ []) (pick b (yields m) (faults (accessFault a)))
         conclude m l true = rw append-nil (record { only = only-second a (secondNeed a) (guestPageFault a g) g look; through = λ m′ e. let q : m ≡ m′ = cc in rw (← q) l })
         conclude m l false = rw append-nil (record { only = only-second a (secondNeed a) (guestPageFault a g) g look; through = λ m′ e. never (accessFault a) m′ e })
 
         go : (o : Outcome Machine) → run look w .end ≡ o → Final (ws ++ run look (onward (λ m. done (last base len a m)) o) .reads) (run look (onward (λ m. done (last base len a m)) o) .end)
         go (faults f) e = rw append-nil (record { only = only-second a (secondNeed a) (guestPageFault a g) g look; through = λ m e. never f m e })
-        go (yields m) e = conclude m (let-through look a (secondNeed a) (guestPageFault a g) g on refl m e) (within base len (m .0) (a .width))
+        go (yields m) e = conclude m (let-through look a (secondNeed a) (guestPageFault a g) g on refl k small even m e) (within base len (m .0) (a .width))
 
     -- the whole list, and its end
     record Whole (xs : List Read) (o : Outcome Machine) : Type 0 where
       guarded : Guarded a xs
-      through : (m : Machine) → o ≡ yields m → EndsThrough (a .second) (secondNeed a) xs m
+      through : (m : Machine) → o ≡ yields m → EndsThrough (a .second) (secondNeed a) xs m (2 ^ k)
 
     whole : Whole (run look (walkOf base len a) .reads) (run look (walkOf base len a) .end)
     unfolding walkOf run
-    whole = rw (run-bind look w (onward (final base len a))) (go (run look w .end))
+    whole = rw (run-bind look w (onward (final base len a))) (go (run look w .end) refl)
       where
         w : Walk (Outcome Guest)
         w = translation (first-of a)
@@ -261,13 +257,14 @@ module _ (look : Machine → Entry) (a : Access) (on : 0 < a .second .levels) wh
         ws : List Read
         ws = run look w .reads
 
-        go : (o : Outcome Guest) → Whole (ws ++ run look (onward (final base len a) o) .reads) (run look (onward (final base len a) o) .end)
-        go (faults f) = record { guarded = guarded-more a [] (guarded-begin (a .first .levels)) tt; through = λ m e. never f m e }
-        go (yields g) =
-            let k = final-through g in
+        go : (o : Outcome Guest) → run look w .end ≡ o → Whole (ws ++ run look (onward (final base len a) o) .reads) (run look (onward (final base len a) o) .end)
+        go (faults f) e = record { guarded = guarded-more a [] (guarded-begin (a .first .levels)) tt; through = λ m e. never f m e }
+        go (yields g) e =
+            let kept = keeps-low look (first-of a) k small g e in
+            let last = final-through g (ap (λ (x : Guest). x .0 % 2 ^ k) (kept .same) ∙ kept .low ∙ aligned) in
             record {
-              guarded = guarded-more a (run look (final base len a g) .reads) (guarded-begin (a .first .levels)) (k .only);
-              through = λ m e. record { earlier = ws; walk = run look (final base len a g) .reads; split = refl; through = k .through m e };
+              guarded = guarded-more a (run look (final base len a g) .reads) (guarded-begin (a .first .levels)) (last .only);
+              through = λ m q. record { earlier = ws; walk = run look (final base len a g) .reads; split = refl; through = last .through m q };
             }
 
 -- ---- the same, of each first-stage item by its place in the list
@@ -291,7 +288,7 @@ cut (w ∷ ws) (z ∷ es) x y xs later h one e =
     ⊎-elim (λ k. inl (let i : es ≡ ws = k .0 in (cc), k .1)) (λ k. inr (k .0, (let i : es ≡ ws ++ (y ∷ k .0) = k .1 in cc), k .2)) (cut ws es x y xs later (h .1) one r)
 
 by-place : (a : Access) {xs : List Read} → Guarded a xs → (earlier : List Read) (x : Read) (later : List Read) → x .stage ≡ 1 → xs ≡ earlier ++ (x ∷ later)
-    → EndsThrough (a .second) entryNeed earlier (x .address)
+    → EndsThrough (a .second) entryNeed earlier (x .address) 8
 by-place a (plain ws h) earlier x later one e = not-both (x .stage) (in-all 2 earlier x later (rw e at h)) one
 by-place a (before ws y xs h l r) earlier x later one e =
     ⊎-elim
@@ -306,17 +303,17 @@ by-place a (before ws y xs h l r) earlier x later one e =
     })
     (cut ws earlier x y xs later h one e)
 
--- ---- demand 3 of the walk
+-- ---- demand 3 of the walk: an access of 2 ^ k bytes, aligned, with the second stage on
 
-module _ (look : Machine → Entry) (base len : ℕ) (a : Access) (on : 0 < a .second .levels) where
-  -- each guest entry listed lies on a page that a second-stage walk directly before it let through
+module _ (look : Machine → Entry) (base len : ℕ) (a : Access) (on : 0 < a .second .levels) (k : ℕ) (small : k ≤ 12) (aligned : a .address % 2 ^ k ≡ 0) where
+  -- the eight bytes of each guest entry listed lie on a page that a second-stage walk directly before it let through
   pub guest-entry : (earlier : List Read) (x : Read) (later : List Read) → run look (walkOf base len a) .reads ≡ earlier ++ (x ∷ later) → x .stage ≡ 1
-      → EndsThrough (a .second) entryNeed earlier (x .address)
-  guest-entry earlier x later e one = by-place a (whole look a on base len .guarded) earlier x later one e
+      → EndsThrough (a .second) entryNeed earlier (x .address) 8
+  guest-entry earlier x later e one = by-place a (whole look a on base len k small aligned .guarded) earlier x later one e
 
-  -- an address answered lies on a page that the second-stage walk ending the list let through
-  pub answer-page : (m : Machine) → run look (walkOf base len a) .end ≡ yields m → EndsThrough (a .second) (secondNeed a) (run look (walkOf base len a) .reads) m
-  answer-page m e = whole look a on base len .through m e
+  -- the bytes at an address answered lie on a page that the second-stage walk ending the list let through
+  pub answer-page : (m : Machine) → run look (walkOf base len a) .end ≡ yields m → EndsThrough (a .second) (secondNeed a) (run look (walkOf base len a) .reads) m (2 ^ k)
+  answer-page m e = whole look a on base len k small aligned .through m e
 
 -- what the read of a guest entry needs is R
 pub entry-right : (e : ℕ) → granted entryNeed e ≡ true → has R e ≡ true

@@ -3,6 +3,7 @@ pub mod Runs
 pub mod Bounds
 pub mod Loops
 pub mod Images
+pub mod Offsets
 pub mod Guarded
 pub mod Replays
 pub mod Places

@@ -2,7 +2,7 @@
 use mathlib.Core.Path.{_≡_}
 use mathlib.Core.Bool.{true, false}
 use mathlib.Core.List.{List, [], _∷_, _++_}
-use Prim.Native.Nat.{ℕ, suc, _+_, _-_, _*_, _^_, _<_, _≤_}
+use Prim.Native.Nat.{ℕ, suc, _+_, _-_, _*_, _^_, _≤_}
 use Rattle.bits.specs.Field.{has}
 use Rattle.rules.specs.declared.Machine.{Machine}
 use Rattle.rules.specs.declared.Need.{Need}
@@ -24,26 +24,26 @@ pub data Descent (root : Root) (guest : ℕ) : ℕ → ℕ → List Read → Rea
   by-pointer : (level table e : ℕ) (xs : List Read) (leaf : Read) → pointer e ≡ true → Descent root guest level (target e) xs leaf
       → Descent root guest (suc level) table (secondItem root guest (suc level) table e ∷ xs) leaf
 
--- "the 2^(12 + 9 times the level) machine bytes from the leaf's PPN times 4096"
-pub record OnPage (leaf : Read) (m : Machine) : Type 0 where
+-- "the 2^(12 + 9 times the level) machine bytes from the leaf's PPN times 4096": size bytes from an address on lie there
+pub record OnPage (leaf : Read) (m : Machine) (size : ℕ) : Type 0 where
   pub from : target (leaf .value) ≤ m .0
-  pub to : m .0 < target (leaf .value) + 2 ^ (12 + 9 * leaf .level)
+  pub to : m .0 + size ≤ target (leaf .value) + 2 ^ (12 + 9 * leaf .level)
 
--- A second-stage walk, from its root, let a machine address through: "no fault rule held at that leaf; so U=1 and the right
--- needed is there"; the address lies on the leaf's page.
-pub record LetThrough (root : Root) (need : Need) (walk : List Read) (m : Machine) : Type 0 where
+-- A second-stage walk, from its root, let size bytes at a machine address through: "no fault rule held at that leaf; so U=1
+-- and the right needed is there"; the bytes lie on the leaf's page.
+pub record LetThrough (root : Root) (need : Need) (walk : List Read) (m : Machine) (size : ℕ) : Type 0 where
   pub guest : ℕ
   pub leaf : Read
   pub items : Descent root guest (root .levels - 1) (root .ppn * 4096) walk leaf
   pub passed : faulty need (leaf .level) (leaf .value) ≡ false
   pub user : has U (leaf .value) ≡ true
   pub right : granted need (leaf .value) ≡ true
-  pub page : OnPage leaf m
+  pub page : OnPage leaf m size
 
 -- A list that ends with such a walk. "The walk for a guest entry stands directly before it; the one for the address answered
 -- ends the list."
-pub record EndsThrough (root : Root) (need : Need) (reads : List Read) (m : Machine) : Type 0 where
+pub record EndsThrough (root : Root) (need : Need) (reads : List Read) (m : Machine) (size : ℕ) : Type 0 where
   pub earlier : List Read
   pub walk : List Read
   pub split : reads ≡ earlier ++ walk
-  pub through : LetThrough root need walk m
+  pub through : LetThrough root need walk m size
