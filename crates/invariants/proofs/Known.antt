@@ -1,10 +1,10 @@
--- The starred known replays of registers and returns (document 01), as one computed table. Assumes nothing.
+-- The starred known replays (document 01, "Tab against tab"), as one computed table. Assumes nothing.
 use mathlib.Core.Path.{_≡_, refl}
-use mathlib.Core.Bool.{true}
+use mathlib.Core.Bool.{true, false}
 use mathlib.Core.List.{List, [], _∷_}
-use Prim.Native.Nat.{ℕ}
+use Prim.Native.Nat.{ℕ, _+_, _*_}
 use lib.Dec.{eqb}
-use Rattle.bits.specs.Field.{top, get, put}
+use Rattle.bits.specs.Field.{pick, top, get, put}
 use Rattle.bits.specs.Assign.{_after_, _:=_}
 use Rattle.bits.specs.Every.{every}
 use Rattle.registers.specs.Fields.{MPP, MPV}
@@ -12,7 +12,7 @@ use Rattle.registers.specs.Places.{mstatus}
 use Rattle.registers.specs.Rules.{legal, stored}
 use Rattle.registers.specs.Table.{firstAt}
 use Rattle.hart.specs.declared.state.Hart.{Hart}
-use Rattle.hart.specs.declared.event.Outcome.{Outcome}
+use Rattle.hart.specs.declared.event.Outcome as event
 use Rattle.hart.specs.declared.event.Outcome.the-variants.{Done, Trapped, Refused}
 use Rattle.hart.specs.declared.access.Accessed.{Accessed}
 use Rattle.hart.specs.Hart.{reg, _↢_, _with_, reset, registersPass, passes}
@@ -20,6 +20,14 @@ use Rattle.hart.specs.Deliver.{deliveredM, deliveredHS, deliveredVS, delivered}
 use Rattle.hart.specs.Event.{settled}
 use Rattle.hart.specs.Return.{returnedM, mret}
 use Rattle.hart.specs.Access.{written, accessRow, access, read, write}
+use Rattle.image.specs.declared.Entry.the-variants.{Value}
+use Rattle.rules.specs.declared.Kind.the-variants.{Load}
+use Rattle.rules.specs.declared.Machine.{Machine}
+use Rattle.rules.specs.Address.{first, wellFormed, extended, small, index}
+use Rattle.rules.specs.Entry.{faulty, judged}
+use Rattle.walk.specs.declared.Read.{Read}
+use Rattle.walk.specs.Tree.{Ran, bind, run}
+use Rattle.walk.specs.Stages.{Outcome, yields, faults, follow, inspect, down, begin, final, walkOf}
 
 -- what a replay answers, and what it should
 pub record Replay : Type 0 where
@@ -37,7 +45,7 @@ all-ones number = read (write (reset 0 3 0) number top .hart) number .value
 abbrev cause : Accessed → ℕ
 cause a = of (a .outcome)
   where
-    of : Outcome → ℕ
+    of : event.Outcome → ℕ
     of Done = 0
     of (Trapped c) = c
     of (Refused n) = 0
@@ -46,8 +54,41 @@ cause a = of (a .outcome)
 abbrev stays : Hart
 stays = record { v = 0; privilege = 3; pc = 0; regs = reset 0 3 0 .regs with (mstatus ↢ (reg (reset 0 3 0) mstatus after (MPP := 3 ∷ MPV := 1 ∷ [])) ∷ []) }
 
+-- a load of 8 with V=1, vsatp Bare, hgatp in Sv39x4 with root PPN 80004, over an image of zero entries everywhere
+abbrev probe : ℕ → Ran (Outcome Machine)
+probe guest =
+    run (λ m. Value 0) (walkOf 0 0 (record {
+      kind = Load;
+      address = guest;
+      width = 8;
+      v = true;
+      user = false;
+      sum = false;
+      mxr = false;
+      mmxr = false;
+      first = record { levels = 0; ppn = 0 };
+      second = record { levels = 3; ppn = 0x80004 };
+    }))
+
+abbrev first-read : List Read → ℕ
+first-read [] = 0
+first-read (x ∷ xs) = x .address .0
+
+abbrev second-value : Outcome Machine → ℕ
+second-value (yields m) = 0
+second-value (faults f) = f .second
+
+-- Sv39: 1 for a well-formed address
+abbrev well-formed : ℕ → ℕ
+well-formed address = pick (wellFormed first 3 address) 1 0
+
 abbrev replays : List Replay
 replays =
+    first-read (probe 0x1FFFFFFFFFF .reads) gives (0x80004 * 4096 + 0x3FF8) ∷  -- GPA 1FFFFFFFFFF
+    second-value (probe 0x20000000000 .end) gives 0x8000000000 ∷  -- GPA 20000000000
+    well-formed 0x3FFFFFFFFF gives 1 ∷
+    well-formed 0xFFFFFFC000000000 gives 1 ∷
+    well-formed 0x4000000000 gives 0 ∷
     all-ones 0x602 gives 0xB1FF ∷  -- hedeleg
     all-ones 0x302 gives 0xF0B7FF ∷  -- medeleg
     all-ones 0x600 gives 0x2007003C0 ∷  -- hstatus
@@ -60,5 +101,5 @@ replays =
     mret stays .hart .privilege gives 3 ∷ []
 
 pub known : every (λ i (r : Replay). eqb (r .answer) (r .known)) 0 replays ≡ true
-unfolding every get put legal stored firstAt registersPass passes deliveredM deliveredHS deliveredVS delivered settled returnedM mret written accessRow access
+unfolding every get put legal stored firstAt registersPass passes deliveredM deliveredHS deliveredVS delivered settled returnedM mret written accessRow access run bind walkOf final begin down inspect follow index extended small judged faulty
 known = refl

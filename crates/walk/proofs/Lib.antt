@@ -5,5 +5,4 @@ pub mod Loops
 pub mod Images
 pub mod Offsets
 pub mod Guarded
-pub mod Replays
 pub mod Places
