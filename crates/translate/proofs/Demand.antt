@@ -79,6 +79,15 @@ module _ (h : Hart) (base : ℕ) (bytes : List ℕ) (kind : Kind) (address width
   pub same-hart : t .hart ≡ h
   same-hart = each (λ (x : Translated). x .hart ≡ h) (λ x e. refl) (λ k. refl)
 
+  -- a refusal leaves the hart as given and the list empty
+  pub refusal-empty : (n : ℕ) → t .answer ≡ Answer.Refused n → t ≡ unwalked h (Answer.Refused n)
+  refusal-empty n e =
+      each (λ (x : Translated). x .answer ≡ Answer.Refused n → x ≡ unwalked h (Answer.Refused n)) (λ x u q. ap (unwalked h) q) (λ k q. never-refused (ran .end) n q) e
+    where
+      never-refused : {P : Type 0} (o : Outcome Machine) (n : ℕ) → answer o ≡ Answer.Refused n → P
+      never-refused (yields m) n q = clash (cc)
+      never-refused (faults f) n q = clash (cc)
+
   -- n first-stage levels over m second-stage levels: at most (n + 1) (m + 1) - 1 reads; a stage that is off has none
   pub count-bound : t .count ≤ a .first .levels * suc (a .second .levels) + a .second .levels
   count-bound = each (λ (x : Translated). x .count ≤ a .first .levels * suc (a .second .levels) + a .second .levels) (λ x e. omega arith) (λ k. at-most a base (length bytes) (look base bytes))
