@@ -4,7 +4,7 @@ use Prim.Native.Nat.{ℕ, _%_, _-_}
 use Rattle.bits.specs.Assign.{_after_}
 use Rattle.registers.specs.Places.{stvec, sepc, scause, stval, vsstatus, vstvec, vsepc, vscause, vstval, mstatus, medeleg, mtvec, mepc, mcause, mtval, mtinst, mtval2, hstatus, hedeleg, htval, htinst}
 use Rattle.status.specs.Trap.{intoM, intoS, intoH}
-use Rattle.traps.specs.declared.Trap.{Trap}
+use Rattle.exceptions.specs.declared.Exception.{Exception}
 use Rattle.traps.specs.declared.Target.{Target}
 use Rattle.traps.specs.declared.Target.the-variants.{M, HS, VS}
 use Rattle.traps.specs.Delivery.{target}
@@ -16,37 +16,37 @@ abbrev pub base : ℕ → ℕ
 base tvec = tvec - tvec % 4
 
 -- M: mstatus; mepc, mcause, mtval, mtval2, mtinst written; V is 0 after
-abbrev pub writesM : Hart → Trap → List Write
+abbrev pub writesM : Hart → Exception → List Write
 writesM h t =
     mstatus ↢ (reg h mstatus after intoM (h .v) (h .privilege) (t .flag) (reg h mstatus))
     ∷ mepc ↢ h .pc ∷ mcause ↢ t .cause ∷ mtval ↢ t .value ∷ mtval2 ↢ t .second ∷ mtinst ↢ t .word ∷ []
 
-unfoldable pub deliveredM : Hart → Trap → Hart
+unfoldable pub deliveredM : Hart → Exception → Hart
 deliveredM h t = record { v = 0; privilege = 3; pc = base (reg h mtvec); regs = h .regs with writesM h t }
 
 -- HS: mstatus and hstatus; sepc, scause, stval, htval, htinst written; V is 0 after
-abbrev pub writesHS : Hart → Trap → List Write
+abbrev pub writesHS : Hart → Exception → List Write
 writesHS h t =
     mstatus ↢ (reg h mstatus after intoS (h .privilege) (reg h mstatus))
     ∷ hstatus ↢ (reg h hstatus after intoH (h .v) (h .privilege) (t .flag) (reg h hstatus))
     ∷ sepc ↢ h .pc ∷ scause ↢ t .cause ∷ stval ↢ t .value ∷ htval ↢ t .second ∷ htinst ↢ t .word ∷ []
 
-unfoldable pub deliveredHS : Hart → Trap → Hart
+unfoldable pub deliveredHS : Hart → Exception → Hart
 deliveredHS h t = record { v = 0; privilege = 1; pc = base (reg h stvec); regs = h .regs with writesHS h t }
 
 -- VS: vsstatus; vsepc, vscause, vstval; V stays 1
-abbrev pub writesVS : Hart → Trap → List Write
+abbrev pub writesVS : Hart → Exception → List Write
 writesVS h t =
     vsstatus ↢ (reg h vsstatus after intoS (h .privilege) (reg h vsstatus))
     ∷ vsepc ↢ h .pc ∷ vscause ↢ t .cause ∷ vstval ↢ t .value ∷ []
 
-unfoldable pub deliveredVS : Hart → Trap → Hart
+unfoldable pub deliveredVS : Hart → Exception → Hart
 deliveredVS h t = record { v = 1; privilege = 1; pc = base (reg h vstvec); regs = h .regs with writesVS h t }
 
-abbrev pub deliveredTo : Target → Hart → Trap → Hart
+abbrev pub deliveredTo : Target → Hart → Exception → Hart
 deliveredTo M h t = deliveredM h t
 deliveredTo HS h t = deliveredHS h t
 deliveredTo VS h t = deliveredVS h t
 
-unfoldable pub delivered : Hart → Trap → Hart
+unfoldable pub delivered : Hart → Exception → Hart
 delivered h t = deliveredTo (target (context h) (reg h medeleg) (reg h hedeleg) (t .cause)) h t

@@ -4,7 +4,7 @@ use Prim.Native.Nat.{ℕ, _+_, _%_, _^_}
 use lib.Dec.{eqb}
 use Rattle.bits.specs.Field.{pick}
 use Rattle.privilege.specs.declared.mode.Verdict.{Verdict}
-use Rattle.traps.specs.declared.Trap.{Trap}
+use Rattle.exceptions.specs.declared.Exception.{Exception}
 use Rattle.hart.specs.declared.state.Hart.{Hart}
 use Rattle.hart.specs.declared.event.Outcome.{Outcome}
 use Rattle.hart.specs.declared.event.Outcome.the-variants.{Done, Trapped, Refused}
@@ -29,10 +29,10 @@ abbrev pub refused : Hart → ℕ → Step
 refused h number = step h (Refused number)
 
 -- any other event that traps delivers at once
-abbrev pub trapped : Hart → Trap → Step
+abbrev pub trapped : Hart → Exception → Step
 trapped h t = step (delivered h t) (Trapped (t .cause))
 
-abbrev pub cause-only : ℕ → Trap
+abbrev pub cause-only : ℕ → Exception
 cause-only cause = record { cause = cause; value = 0; second = 0; word = 0; flag = false }
 
 -- causes 2 and 22 raised by the model have value 0; the flag is clear; second value and word are 0

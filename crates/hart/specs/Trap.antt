@@ -2,7 +2,7 @@
 use mathlib.Core.Bool.{false}
 use Rattle.bits.specs.Field.{pick}
 use Rattle.privilege.specs.declared.mode.Verdict.{Verdict}
-use Rattle.traps.specs.declared.Trap.{Trap}
+use Rattle.exceptions.specs.declared.Exception.{Exception}
 use Rattle.privilege.specs.Mode.{verdict}
 use Rattle.traps.specs.Request.{impossible}
 use Rattle.traps.specs.Delivery.{callCause, breakpoint}
@@ -15,7 +15,7 @@ abbrev allowed : Verdict
 allowed = verdict false false
 
 -- a trap request is refused as 4 if it can't arise, else delivered
-unfoldable pub trap : Hart → Trap → Step
+unfoldable pub trap : Hart → Exception → Step
 trap h t = settled h (pick (impossible (context h) t) 4 0) allowed (trapped h t)
 
 -- environment calls give 8 (U, VU), 9, 10, 11 with value 0; the flag is clear; second value and word are 0

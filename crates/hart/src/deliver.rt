@@ -2,12 +2,12 @@
 ghost use mathlib.Core.Path.{_≡_};
 ghost use Rattle.hart.specs.Deliver.{deliveredM, deliveredHS, deliveredVS, delivered};
 use crate::state::Hart;
+use exceptions::Exception;
 use registers::places;
 use traps::Target;
-use traps::Trap;
 
 impl Hart {
-    fn deliver_m(mut self, t: Trap) -> Hart
+    fn deliver_m(mut self, t: Exception) -> Hart
         ensures { λ r. ⌜ r ≡ deliveredM self t ⌝ }
     {
         let pc = self.pc;
@@ -25,7 +25,7 @@ impl Hart {
         self
     }
 
-    fn deliver_hs(mut self, t: Trap) -> Hart
+    fn deliver_hs(mut self, t: Exception) -> Hart
         ensures { λ r. ⌜ r ≡ deliveredHS self t ⌝ }
     {
         let pc = self.pc;
@@ -45,7 +45,7 @@ impl Hart {
         self
     }
 
-    fn deliver_vs(mut self, t: Trap) -> Hart
+    fn deliver_vs(mut self, t: Exception) -> Hart
         ensures { λ r. ⌜ r ≡ deliveredVS self t ⌝ }
     {
         let pc = self.pc;
@@ -62,7 +62,7 @@ impl Hart {
     }
 
     // The hart after a trap, whatever it is.
-    pub fn deliver(self, t: Trap) -> Hart
+    pub fn deliver(self, t: Exception) -> Hart
         ensures { λ r. ⌜ r ≡ delivered self t ⌝ }
     {
         let to = traps::delivers_to(

@@ -2,8 +2,8 @@
 ghost use mathlib.Core.Path.{_≡_};
 ghost use Rattle.hart.specs.Event.{trapped, raised, settled, moved};
 use crate::state::Hart;
+use exceptions::Exception;
 use privilege::mode::Verdict;
-use traps::Trap;
 
 // The event was done, it trapped with a cause, or it was refused with document 01's number.
 pub enum Outcome {
@@ -19,7 +19,7 @@ pub struct Step {
 
 impl Hart {
     // The trap is delivered.
-    pub fn take_trap(self, t: Trap) -> Step
+    pub fn take_trap(self, t: Exception) -> Step
         ensures { λ r. ⌜ r ≡ trapped self t ⌝ }
     {
         let cause = t.cause;
@@ -34,7 +34,7 @@ impl Hart {
     fn raise(self, cause: u64) -> Step
         ensures { λ r. ⌜ r ≡ raised self cause ⌝ }
     {
-        self.take_trap(Trap {
+        self.take_trap(Exception {
             cause,
             value: 0,
             second: 0,

@@ -3,12 +3,12 @@ ghost use mathlib.Core.Path.{_≡_};
 ghost use Rattle.hart.specs.Trap.{trap, ecall, ebreak};
 use crate::event::Step;
 use crate::state::Hart;
+use exceptions::Exception;
 use privilege::mode::Verdict;
-use traps::Trap;
 
 impl Hart {
     // A trap request.
-    pub fn trap(self, t: Trap) -> Step
+    pub fn trap(self, t: Exception) -> Step
         ensures { λ r. ⌜ r ≡ trap self t ⌝ }
     {
         let own = bits::select(traps::impossible(self.context(), t), 4, 0);
@@ -27,7 +27,7 @@ impl Hart {
         ensures { λ r. ⌜ r ≡ ecall self ⌝ }
     {
         let cause = traps::call_cause(self.context());
-        let t = Trap {
+        let t = Exception {
             cause,
             value: 0,
             second: 0,

@@ -11,7 +11,7 @@ use Rattle.registers.specs.declared.table.Found.the-variants.{At, Nothing}
 use Rattle.registers.specs.Table.{at, rowOf, table, firstAt}
 use Rattle.registers.proofs.Rows.{lookup-found}
 use Rattle.privilege.specs.declared.mode.Verdict.{Verdict}
-use Rattle.traps.specs.declared.Trap.{Trap}
+use Rattle.exceptions.specs.declared.Exception.{Exception}
 use Rattle.privilege.specs.Mode.{isM}
 use Rattle.csr.specs.Access as csr
 use Rattle.traps.specs.Delivery.{callCause, breakpoint}
@@ -36,7 +36,7 @@ pub record Allowed (verdict : Verdict) : Type 0 where
 
 pub data Comes (h : Hart) : Step → Type 0 where
   refuses : (n : ℕ) → eqb n 0 ≡ false → Comes h (refused h n)
-  traps : passes h ≡ true → (t : Trap) → Comes h (trapped h t)
+  traps : passes h ≡ true → (t : Exception) → Comes h (trapped h t)
   mrets : passes h ≡ true → isM (context h) ≡ true → Comes h (done (returnedM h))
   srets-VS : passes h ≡ true → h .v ≡ 1 → Comes h (done (returnedVS h))
   srets-HS : passes h ≡ true → eqb (h .v) 1 ≡ false → Comes h (done (returnedHS h))

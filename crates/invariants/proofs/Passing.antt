@@ -28,7 +28,7 @@ use Rattle.registers.proofs.Rows.{row-sound}
 use Rattle.status.specs.Trap.{intoM, intoS, intoH}
 use Rattle.status.specs.Return.{fromM, fromS, fromHS, fromH}
 use Rattle.status.proofs.Kept.{stays, Privilege, intoM-fine}
-use Rattle.traps.specs.declared.Trap.{Trap}
+use Rattle.exceptions.specs.declared.Exception.{Exception}
 use Rattle.traps.specs.declared.Target.{Target}
 use Rattle.traps.specs.declared.Target.the-variants.{M, HS, VS}
 use Rattle.traps.specs.Delivery.{target}
@@ -121,7 +121,7 @@ not-M : (a b c : Bool) (to : Target) → pick (a || b) M (pick c VS HS) ≡ to �
 not-M true b c to e n = absurd (n (sym e))
 not-M false b c to e n = refl
 
-module _ (h : Hart) (t : Trap) (p : Passing h) (l : length (h .regs) ≡ 29) where
+module _ (h : Hart) (t : Exception) (p : Passing h) (l : length (h .regs) ≡ 29) where
   into-M : Passing (deliveredM h t)
   unfolding deliveredM
   into-M = record {

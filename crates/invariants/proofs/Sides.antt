@@ -8,7 +8,7 @@ use lib.ListN.{getD, set}
 use lib.Seq.{getD-set-other}
 use Rattle.registers.specs.Places.{vsstatus, vsatp, medeleg, hedeleg}
 use Rattle.registers.specs.Table.{at}
-use Rattle.traps.specs.declared.Trap.{Trap}
+use Rattle.exceptions.specs.declared.Exception.{Exception}
 use Rattle.traps.specs.declared.Target.{Target}
 use Rattle.traps.specs.declared.Target.the-variants.{M, HS, VS}
 use Rattle.traps.specs.Delivery.{target}
@@ -38,17 +38,17 @@ abbrev pub OneSide : Hart → Hart → Type 0
 OneSide h h′ = OnlyIn guest h h′ ⊎ OnlyIn host h h′
 
 -- a trap into VS changes VS registers alone, so nothing of HS or M, and V stays 1
-pub into-VS : (h : Hart) (t : Trap) → OnlyIn guest h (deliveredVS h t) × (deliveredVS h t .v ≡ 1)
+pub into-VS : (h : Hart) (t : Exception) → OnlyIn guest h (deliveredVS h t) × (deliveredVS h t .v ≡ 1)
 unfolding deliveredVS
 into-VS h t = (outside-kept guest (writesVS h t) (h .regs) refl, refl)
 
-delivered-side : (to : Target) (h : Hart) (t : Trap) → OneSide h (deliveredTo to h t)
+delivered-side : (to : Target) (h : Hart) (t : Exception) → OneSide h (deliveredTo to h t)
 unfolding deliveredM deliveredHS deliveredVS
 delivered-side M h t = inr (outside-kept host (writesM h t) (h .regs) refl)
 delivered-side HS h t = inr (outside-kept host (writesHS h t) (h .regs) refl)
 delivered-side VS h t = inl (outside-kept guest (writesVS h t) (h .regs) refl)
 
-trap-side : (h : Hart) (t : Trap) → OneSide h (delivered h t)
+trap-side : (h : Hart) (t : Exception) → OneSide h (delivered h t)
 unfolding delivered
 trap-side h t = delivered-side (target (context h) (reg h medeleg) (reg h hedeleg) (t .cause)) h t
 

@@ -1,7 +1,7 @@
 -- Every event of the hart but translation, so that a theorem can speak of any of them.
 use mathlib.Core.Bool.{Bool}
 use Prim.Native.Nat.{ℕ}
-use Rattle.traps.specs.declared.Trap.{Trap}
+use Rattle.exceptions.specs.declared.Exception.{Exception}
 use Rattle.hart.specs.declared.state.Hart.{Hart}
 use Rattle.hart.specs.declared.event.Step.{Step}
 use Rattle.csr.specs.declared.Form.{Form}
@@ -13,7 +13,7 @@ use Rattle.hart.specs.Wait as waits
 use Rattle.hart.specs.Access as accesses
 
 pub data Event : Type 0 where
-  trap : Trap → Event
+  trap : Exception → Event
   ecall ebreak mret sret wfi sfence-vma hfence-vvma hfence-gvma : Event
   access : Form → (number value : ℕ) → (writes : Bool) → Event
 

@@ -1,11 +1,11 @@
 // The known replays of registers, traps and returns that are run and compared, and a tour through all five modes and all
 // three targets of a trap. A line for each event: what it came to, then V, privilege and pc. Numbers are hexadecimal.
+use exceptions::Exception;
 use hart::access::Accessed;
 use hart::event::Outcome;
 use hart::event::Step;
 use hart::state::Hart;
 use libc::STDOUT_FILENO;
-use traps::Trap;
 
 fn text(s: &[u8]) {
     io::write_all(STDOUT_FILENO, s);
@@ -127,7 +127,7 @@ fn to_m(h: Hart) -> Hart {
 
 // A request that is delivered, and one that can't arise.
 fn requests(h: Hart) -> Hart {
-    let fault = Trap {
+    let fault = Exception {
         cause: 21,
         value: 0x4000_1008,
         second: 0x1000_0402,
@@ -136,7 +136,7 @@ fn requests(h: Hart) -> Hart {
     };
     let h = event(b"trap 15 in M", h.trap(fault));
     let h = access(b"read mtval2", h.read(0x34B));
-    let call = Trap {
+    let call = Exception {
         cause: 8,
         value: 0,
         second: 0,

@@ -2,34 +2,34 @@
 use mathlib.Core.Bool.{true, false}
 use Prim.Native.Nat.{ℕ, _/_}
 use Rattle.rules.specs.declared.Access.{Access}
-use Rattle.rules.specs.declared.Fault.{Fault}
+use Rattle.exceptions.specs.declared.Exception.{Exception}
 use Rattle.rules.specs.declared.Guest.{Guest}
 use Rattle.rules.specs.declared.Kind.the-variants.{Load}
 use Rattle.rules.specs.declared.Need.{Need}
 use Rattle.rules.specs.Kind.{by}
 
 -- "The value is the virtual address; the flag is the effective V."
-abbrev pub raised : Access → ℕ → ℕ → ℕ → Fault
+abbrev pub raised : Access → ℕ → ℕ → ℕ → Exception
 raised a cause second word = record { cause = cause; value = a .address; second = second; word = word; flag = a .v }
 
 -- "Misaligned load or store: 4 or 6"; no fetch comes to this.
-abbrev pub misalignment : Access → Fault
+abbrev pub misalignment : Access → Exception
 misalignment a = raised a (by (a .kind) 0 4 6) 0 0
 
 -- "access fault 1, 5, 7 by the original access"
-abbrev pub accessFault : Access → Fault
+abbrev pub accessFault : Access → Exception
 accessFault a = raised a (by (a .kind) 1 5 7) 0 0
 
 -- "page fault 12, 13, 15 (fetch, load, store)"
-abbrev pub pageFault : Access → Fault
+abbrev pub pageFault : Access → Exception
 pageFault a = raised a (by (a .kind) 12 13 15) 0 0
 
 -- "guest-page fault 20, 21, 23"; "Every guest-page fault's second value is the guest physical address shifted right by 2."
-abbrev pub guestPageFault : Access → Guest → Fault
+abbrev pub guestPageFault : Access → Guest → Exception
 guestPageFault a guest = raised a (by (a .kind) 20 21 23) (guest .0 / 4) 0
 
 -- A guest entry's: "raised as a load guest-page fault, 21, with instruction word 00003000 hex"
-abbrev pub entryFault : Access → Guest → Fault
+abbrev pub entryFault : Access → Guest → Exception
 entryFault a guest = raised a 21 (guest .0 / 4) 0x3000
 
 -- At the first stage: the access's own kind and mode, and the SUM and MXR that count there.

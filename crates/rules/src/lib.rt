@@ -9,6 +9,7 @@ ghost use Rattle.rules.specs.Faults.{raised, misalignment, accessFault, 
 use bits::Field;
 use bits::has;
 use bits::select;
+use exceptions::Exception;
 
 // A guest physical address: what the first stage yields. Only the second stage, also when off, makes a machine address of it.
 pub struct Guest(pub u64);
@@ -56,14 +57,6 @@ pub struct Access {
     pub mmxr: bool,
     pub first: Root,
     pub second: Root,
-}
-
-pub struct Fault {
-    pub cause: u64,
-    pub value: u64,
-    pub second: u64,
-    pub word: u64,
-    pub flag: bool,
 }
 
 // The bits of an entry.
@@ -234,11 +227,11 @@ pub fn is_small(levels: u64, address: u64) -> bool
 
 impl Access {
     // The fault whose cause is the access's own of three.
-    fn raise(self, fetch: u64, load: u64, store: u64, second: u64) -> Fault
+    fn raise(self, fetch: u64, load: u64, store: u64, second: u64) -> Exception
         ensures { λ r. ⌜ r ≡ raised self (by (self .kind) fetch load store) second 0 ⌝ }
     {
         let kind = self.kind;
-        Fault {
+        Exception {
             cause: kind.cause(fetch, load, store),
             value: self.address,
             second: second,
@@ -248,35 +241,35 @@ impl Access {
     }
 
     // A misaligned load or store.
-    pub fn misalignment(self) -> Fault
+    pub fn misalignment(self) -> Exception
         ensures { λ r. ⌜ r ≡ misalignment self ⌝ }
     {
         self.raise(0, 4, 6, 0)
     }
 
-    pub fn access_fault(self) -> Fault
+    pub fn access_fault(self) -> Exception
         ensures { λ r. ⌜ r ≡ accessFault self ⌝ }
     {
         self.raise(1, 5, 7, 0)
     }
 
-    pub fn page_fault(self) -> Fault
+    pub fn page_fault(self) -> Exception
         ensures { λ r. ⌜ r ≡ pageFault self ⌝ }
     {
         self.raise(12, 13, 15, 0)
     }
 
-    pub fn guest_page_fault(self, guest: Guest) -> Fault
+    pub fn guest_page_fault(self, guest: Guest) -> Exception
         ensures { λ r. ⌜ r ≡ guestPageFault self guest ⌝ }
     {
         self.raise(20, 21, 23, guest.0 / 4)
     }
 
     // The fault of a guest entry, always a load's.
-    pub fn entry_fault(self, guest: Guest) -> Fault
+    pub fn entry_fault(self, guest: Guest) -> Exception
         ensures { λ r. ⌜ r ≡ entryFault self guest ⌝ }
     {
-        Fault {
+        Exception {
             cause: 21,
             value: self.address,
             second: guest.0 / 4,

@@ -4,11 +4,11 @@ ghost use Prim.Native.Nat.{_%_, _<_};
 ghost use Rattle.walk.specs.Place.{outcome};
 ghost use Rattle.translate.specs.Effective.{effective, root, off, firstRoot, secondRoot, inMode, accessOf};
 ghost use Rattle.translate.specs.Translated.{unsupported, misaligned, answer, unwalked, translated};
+use exceptions::Exception;
 use hart::state::Hart;
 use registers::fields;
 use registers::places;
 use rules::Access;
-use rules::Fault;
 use rules::Kind;
 use rules::Machine;
 use rules::Root;
@@ -24,7 +24,7 @@ pub struct Mode {
 pub enum Answer {
     Address(Machine),
     Refused(u64),
-    Fault(Fault),
+    Fault(Exception),
 }
 
 pub struct Translated {

@@ -4,7 +4,7 @@ use Prim.Native.Nat.{ℕ}
 use lib.Dec.{eqb}
 use Rattle.bits.specs.Field.{pick, has}
 use Rattle.privilege.specs.declared.mode.Context.{Context}
-use Rattle.traps.specs.declared.Trap.{Trap}
+use Rattle.exceptions.specs.declared.Exception.{Exception}
 use Rattle.traps.specs.declared.Target.{Target}
 use Rattle.traps.specs.declared.Target.the-variants.{M, HS, VS}
 use Rattle.privilege.specs.Mode.{isHS, isM, isVS}
@@ -19,5 +19,5 @@ abbrev pub callCause : Context → ℕ
 callCause c = pick (isM c) 11 (pick (isVS c) 10 (pick (isHS c) 9 8))
 
 -- breakpoint: value pc, flag = V; second value and word are 0
-abbrev pub breakpoint : (v pc : ℕ) → Trap
+abbrev pub breakpoint : (v pc : ℕ) → Exception
 breakpoint v pc = record { cause = 3; value = pc; second = 0; word = 0; flag = eqb v 1 }

@@ -3,7 +3,7 @@ use mathlib.Core.Bool.{Bool, _&&_, _||_, not}
 use Prim.Native.Nat.{ℕ}
 use lib.Dec.{eqb, leb}
 use Rattle.privilege.specs.declared.mode.Context.{Context}
-use Rattle.traps.specs.declared.Trap.{Trap}
+use Rattle.exceptions.specs.declared.Exception.{Exception}
 use Rattle.privilege.specs.Mode.{isU, isHS, isM, isVU, isVS}
 
 -- an environment call: 8 to 11
@@ -28,7 +28,7 @@ wrongMode c cause =
     || eqb cause 22 && eqb (c .v) 0)))
 
 -- 8-11 with a nonzero value; second value or instruction word nonzero unless cause 20, 21, 23
-abbrev pub wrongValue : Trap → Bool
+abbrev pub wrongValue : Exception → Bool
 wrongValue t =
     isCall (t .cause) && not (eqb (t .value) 0)
     || not (isGuestPage (t .cause)) && not (eqb (t .second) 0 && eqb (t .word) 0)
@@ -38,11 +38,11 @@ abbrev pub neverFlagged : ℕ → Bool
 neverFlagged cause = eqb cause 2 || (isCall cause || eqb cause 22)
 
 -- flag set for 2, 8-11, 22, or clear for 20, 21, 23, or clear with V=1 for any other cause
-abbrev pub wrongFlag : Context → Trap → Bool
+abbrev pub wrongFlag : Context → Exception → Bool
 wrongFlag c t =
     t .flag && neverFlagged (t .cause)
     || (not (t .flag) && isGuestPage (t .cause)
     || not (t .flag) && (eqb (c .v) 1 && not (neverFlagged (t .cause))))
 
-abbrev pub impossible : Context → Trap → Bool
+abbrev pub impossible : Context → Exception → Bool
 impossible c t = unknown (t .cause) || (wrongMode c (t .cause) || (wrongValue t || wrongFlag c t))

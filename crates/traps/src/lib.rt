@@ -2,16 +2,8 @@
 ghost use mathlib.Core.Path.{_≡_};
 ghost use Rattle.traps.specs.Request.{isCall, isGuestPage, unknown, wrongMode, wrongValue, neverFlagged, wrongFlag, impossible};
 ghost use Rattle.traps.specs.Delivery.{target, callCause, breakpoint};
+use exceptions::Exception;
 use privilege::mode::Context;
-
-// A trap: its cause, value, second value, instruction word and guest-address flag.
-pub struct Trap {
-    pub cause: u64,
-    pub value: u64,
-    pub second: u64,
-    pub word: u64,
-    pub flag: bool,
-}
 
 pub enum Target {
     M,
@@ -47,7 +39,7 @@ fn wrong_mode(c: Context, cause: u64) -> bool
     user | (hs | (vs | (m | ((cause == 22) & (c.v == 0)))))
 }
 
-fn wrong_value(t: Trap) -> bool
+fn wrong_value(t: Exception) -> bool
     ensures { λ r. ⌜ r ≡ wrongValue t ⌝ }
 {
     let value = is_call(t.cause) & !(t.value == 0);
@@ -60,7 +52,7 @@ fn never_flagged(cause: u64) -> bool
     (cause == 2) | (is_call(cause) | (cause == 22))
 }
 
-fn wrong_flag(c: Context, t: Trap) -> bool
+fn wrong_flag(c: Context, t: Exception) -> bool
     ensures { λ r. ⌜ r ≡ wrongFlag c t ⌝ }
 {
     let never = never_flagged(t.cause);
@@ -69,7 +61,7 @@ fn wrong_flag(c: Context, t: Trap) -> bool
 }
 
 // A trap request that can't arise.
-pub fn impossible(c: Context, t: Trap) -> bool
+pub fn impossible(c: Context, t: Exception) -> bool
     ensures { λ r. ⌜ r ≡ impossible c t ⌝ }
 {
     unknown(t.cause) | (wrong_mode(c, t.cause) | (wrong_value(t) | wrong_flag(c, t)))
@@ -96,10 +88,10 @@ pub fn call_cause(c: Context) -> u64
 }
 
 // A breakpoint at pc.
-pub fn breakpoint(v: u64, pc: u64) -> Trap
+pub fn breakpoint(v: u64, pc: u64) -> Exception
     ensures { λ r. ⌜ r ≡ breakpoint v pc ⌝ }
 {
-    Trap {
+    Exception {
         cause: 3,
         value: pc,
         second: 0,

@@ -9,7 +9,7 @@ use Rattle.bits.specs.Field.{pick}
 use Rattle.image.specs.declared.Entry.{Entry}
 use Rattle.image.specs.declared.Entry.the-variants.{Value, Outside}
 use Rattle.rules.specs.declared.Access.{Access}
-use Rattle.rules.specs.declared.Fault.{Fault}
+use Rattle.exceptions.specs.declared.Exception.{Exception}
 use Rattle.rules.specs.declared.Guest.{Guest}
 use Rattle.rules.specs.declared.Machine.{Machine}
 use Rattle.rules.specs.declared.Need.{Need}
@@ -87,7 +87,7 @@ module _ {A : Type 0} (t : Translation A) (k : ℕ) (through : (x : ℕ) → Wit
 -- ---- both stages
 
 module _ (a : Access) where
-  within-second : (n : Need) (f : Fault) (g : Guest) → Within (translation (second-of a n f g)) (a .second .levels)
+  within-second : (n : Need) (f : Exception) (g : Guest) → Within (translation (second-of a n f g)) (a .second .levels)
   within-second n f g = rw mul-one at (within-begin (second-of a n f g) 0 (λ x. tt) (a .second .levels))
 
   within-final : (base len : ℕ) (g : Guest) → Within (final base len a g) (a .second .levels)

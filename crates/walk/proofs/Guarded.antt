@@ -11,7 +11,7 @@ use Rattle.image.specs.declared.Entry.{Entry}
 use Rattle.image.specs.declared.Entry.the-variants.{Value, Outside}
 use Rattle.image.specs.Image.{within}
 use Rattle.rules.specs.declared.Access.{Access}
-use Rattle.rules.specs.declared.Fault.{Fault}
+use Rattle.exceptions.specs.declared.Exception.{Exception}
 use Rattle.rules.specs.declared.Guest.{Guest}
 use Rattle.rules.specs.declared.Machine.{Machine}
 use Rattle.rules.specs.declared.Need.{Need}
@@ -31,7 +31,7 @@ use Rattle.walk.proofs.Offsets.{never, room, keeps-low}
 
 -- ---- a second stage that yields an address has let it through
 
-module _ (look : Machine → Entry) (a : Access) (n : Need) (f : Fault) (g : Guest) where
+module _ (look : Machine → Entry) (a : Access) (n : Need) (f : Exception) (g : Guest) where
   abbrev t : Translation Machine
   t = second-of a n f g
 
@@ -134,7 +134,7 @@ all-append : (s : ℕ) (xs ys : List Read) → All s xs → All s ys → All s (
 all-append s [] ys h k = k
 all-append s (x ∷ xs) ys h k = (h .0, all-append s xs ys (h .1) k)
 
-module _ (a : Access) (n : Need) (f : Fault) (g : Guest) where
+module _ (a : Access) (n : Need) (f : Exception) (g : Guest) where
   abbrev u : Translation Machine
   u = second-of a n f g
 

@@ -10,7 +10,7 @@ use Rattle.bits.specs.Field.{pick, get}
 use Rattle.bits.proofs.Bools.{clash}
 use Rattle.image.specs.declared.Entry.{Entry}
 use Rattle.image.specs.declared.Entry.the-variants.{Value, Outside}
-use Rattle.rules.specs.declared.Fault.{Fault}
+use Rattle.exceptions.specs.declared.Exception.{Exception}
 use Rattle.rules.specs.declared.Machine.{Machine}
 use Rattle.rules.specs.declared.Verdict.{Verdict}
 use Rattle.rules.specs.declared.Verdict.the-variants.{Pointer, Leaf, Bad}
@@ -21,7 +21,7 @@ use Rattle.walk.specs.Tree.{Walk, done, item, listed, found, run}
 use Rattle.walk.specs.Stages.{Outcome, yields, faults, onward, _then_, Translation, slot, follow, inspect, down, begin, translation}
 use Rattle.walk.proofs.Runs.{run-bind}
 
-pub never : {A : Type 0} {P : Type 0} (f : Fault) (x : A) → _≡_ {A = Outcome A} (faults f) (yields x) → P
+pub never : {A : Type 0} {P : Type 0} (f : Exception) (x : A) → _≡_ {A = Outcome A} (faults f) (yields x) → P
 never f x e = clash (cc)
 
 module _ (level x k : ℕ) where

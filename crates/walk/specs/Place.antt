@@ -4,7 +4,7 @@ use Prim.Native.Nat.{ℕ, zero, suc, _^_, _<_, _≤_}
 use lib.Dec.{eqb}
 use Rattle.bits.specs.Field.{pick}
 use Rattle.rules.specs.declared.Access.{Access}
-use Rattle.rules.specs.declared.Fault.{Fault}
+use Rattle.exceptions.specs.declared.Exception.{Exception}
 use Rattle.rules.specs.declared.Guest.{Guest}
 use Rattle.rules.specs.declared.Machine.{Machine}
 use Rattle.rules.specs.declared.Need.{Need}
@@ -22,7 +22,7 @@ use Rattle.walk.specs.Stages.{Outcome, yields, faults, Translation, _the
 abbrev pub needAt : Access → ℕ → Need
 needAt a left = pick (eqb left 0) (secondNeed a) entryNeed
 
-abbrev pub faultAt : Access → ℕ → Guest → Fault
+abbrev pub faultAt : Access → ℕ → Guest → Exception
 faultAt a left g = pick (eqb left 0) (guestPageFault a g) (entryFault a g)
 
 abbrev pub second-at : Access → ℕ → Guest → Translation Machine

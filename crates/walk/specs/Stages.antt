@@ -5,7 +5,7 @@ use Rattle.bits.specs.Field.{pick}
 use Rattle.image.specs.declared.Entry.{Entry}
 use Rattle.image.specs.Image.{within, entry}
 use Rattle.rules.specs.declared.Access.{Access}
-use Rattle.rules.specs.declared.Fault.{Fault}
+use Rattle.exceptions.specs.declared.Exception.{Exception}
 use Rattle.rules.specs.declared.Guest.{Guest}
 use Rattle.rules.specs.declared.Machine.{Machine}
 use Rattle.rules.specs.declared.Need.{Need}
@@ -30,7 +30,7 @@ look base bytes m = entry base bytes (m .0)
 -- what a stage comes to
 pub data Outcome (A : Type 0) : Type 0 where
   yields : A → Outcome A
-  faults : Fault → Outcome A
+  faults : Exception → Outcome A
 
 abbrev pub onward : {A B : Type 0} → (A → Walk (Outcome B)) → Outcome A → Walk (Outcome B)
 onward f (yields a) = f a
@@ -48,8 +48,8 @@ pub record Translation (A : Type 0) : Type 0 where
   pub tables : Root
   pub address : ℕ
   pub need : Need
-  pub fault : Fault
-  pub outside : Fault
+  pub fault : Exception
+  pub outside : Exception
   pub through : ℕ → Walk (Outcome Machine)
   pub kind : ℕ → A
 
@@ -84,7 +84,7 @@ abbrev pub translation : {A : Type 0} → Translation A → Walk (Outcome A)
 translation t = begin t (t .tables .levels)
 
 -- The second stage: its tables' own addresses are machine addresses.
-abbrev pub second-of : Access → Need → Fault → Guest → Translation Machine
+abbrev pub second-of : Access → Need → Exception → Guest → Translation Machine
 second-of a need fault g =
     record {
       stage = second;

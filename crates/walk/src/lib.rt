@@ -8,11 +8,11 @@ ghost use Rattle.walk.specs.Stages.{look, walkOf, onward, last};
 ghost use Rattle.walk.specs.Listed.{walked, reached};
 ghost use Rattle.walk.specs.Place.{needAt, faultAt, arrived, entered, outcome, secondAfter, firstAfter, after, Tables, Sound, Leads};
 use bits::select;
+use exceptions::Exception;
 use image::Entry;
 use image::fetch;
 use image::inside;
 use rules::Access;
-use rules::Fault;
 use rules::Guest;
 use rules::Machine;
 use rules::Need;
@@ -29,7 +29,7 @@ pub struct Read {
 // What a walk comes to.
 pub enum Reached {
     At(Machine),
-    Failed(Fault),
+    Failed(Exception),
 }
 
 pub struct Walked {
@@ -64,7 +64,7 @@ fn need(a: Access, left: u64) -> Need
 }
 
 // What the second stage raises.
-fn fault(a: Access, left: u64, guest: Guest) -> Fault
+fn fault(a: Access, left: u64, guest: Guest) -> Exception
     ensures { λ r. ⌜ r ≡ faultAt a left guest ⌝ }
 {
     if left == 0 {

@@ -2,7 +2,7 @@ use mathlib.Core.Path.{sym, ap, _∙_}
 use native.Mathlib.Omega.{arith}
 use Prim.Native.Nat.{_<_}
 use borrow.Author.Tests.{not-true, not-false}
-use Rattle.rules.specs.declared.Fault.{Fault}
+use Rattle.exceptions.specs.declared.Exception.{Exception}
 use Rattle.walk.specs.Tree.{done}
 use Rattle.walk.specs.Stages.{faults}
 use Rattle.walk.specs.Place.{rest}
@@ -30,7 +30,7 @@ unfolding rest
 returns-2 c =
     let a = c .before .before .before .before .before .args in
     let w = sym (c .before .before .is-small .ensures) ∙ not-true _ (c .before .if2 .taken) in
-    record { same = ap (λ (f : Fault). done (faults f)) (c .fault .ensures) ∙ entered-bad (a .base) (a .len) (a .a) (a .left) (a .guest) (omega (arith, c .before .before .before .if1 .left)) w; sound = tt }
+    record { same = ap (λ (f : Exception). done (faults f)) (c .fault .ensures) ∙ entered-bad (a .base) (a .len) (a .a) (a .left) (a .guest) (omega (arith, c .before .before .before .if1 .left)) w; sound = tt }
 
 sub-t15 : tie.Need-sub-t15
 sub-t15 c = search needs

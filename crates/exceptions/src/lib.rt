@@ -1,0 +1,8 @@
+// What a trap delivers, and what a translation's fault holds: cause, value, second value, instruction word and guest-address flag.
+pub struct Exception {
+    pub cause: u64,
+    pub value: u64,
+    pub second: u64,
+    pub word: u64,
+    pub flag: bool,
+}
