@@ -8,7 +8,7 @@ use native.Mathlib.Omega.{arith}
 use lib.ListN.{length, take, drop}
 use lib.Seq.{take-append-seam, drop-append-seam}
 use Rattle.bits.specs.Field.{pick}
-use Rattle.bits.proofs.Bools.{clash, pick-both}
+use Rattle.bits.proofs.Bools.{clash}
 use Rattle.hart.specs.declared.state.Hart.{Hart}
 use Rattle.hart.specs.Hart.{passes}
 use Rattle.image.specs.Image.{unfit}
@@ -28,7 +28,8 @@ use Rattle.translate.specs.declared.Answer.{Answer}
 use Rattle.translate.specs.declared.Translated.{Translated}
 use Rattle.translate.specs.Effective.{accessOf}
 use Rattle.translate.specs.Translated.{unsupported, misaligned, answer, unwalked, walkedTo, translated}
-use Rattle.translate.proofs.Accesses.{Aligned, aligned, tables-of}
+use Rattle.translate.proofs.Accesses.{tables-of}
+use Rattle.translate.proofs.Cases.{ranOf, AtOnce, refused, misaligned-by, each}
 
 -- the items listed: the places up to the count
 abbrev pub listed : Translated → List Read
@@ -50,24 +51,10 @@ module _ (h : Hart) (base : ℕ) (bytes : List ℕ) (kind : Kind) (address width
   a = accessOf h kind address width
 
   abbrev ran : Ran (Outcome Machine)
-  ran = run (look base bytes) (walkOf base (length bytes) a)
+  ran = ranOf h base bytes kind address width
 
   abbrev t : Translated
   t = translated h base bytes kind address width
-
-  -- the answers that no walk gives
-  data AtOnce : Answer → Type 0 where
-    refused : (n : ℕ) → AtOnce (Answer.Refused n)
-    misaligned-by : AtOnce (Answer.Fault (misalignment a))
-
-  -- what holds of these and of the walk holds of every translation
-  each : (P : Translated → Type 0) → ((x : Answer) → AtOnce x → P (unwalked h x)) → (Aligned address width → P (walkedTo h ran)) → P t
-  unfolding translated
-  each P u w =
-      pick-both P (not (passes h)) _ _ (λ e. u (Answer.Refused 2) (refused 2))
-      (λ e. pick-both P (unfit base (length bytes)) _ _ (λ e. u (Answer.Refused 1) (refused 1))
-      (λ e. pick-both P (unsupported kind address width) _ _ (λ e. u (Answer.Refused 3) (refused 3))
-      (λ p. pick-both P (misaligned kind address width) _ _ (λ e. u (Answer.Fault (misalignment a)) misaligned-by) (λ q. w (aligned kind address width p q)))))
 
   -- ---- answer and list are those of the walk
 
@@ -77,12 +64,12 @@ module _ (h : Hart) (base : ℕ) (bytes : List ℕ) (kind : Kind) (address width
 
   -- the hart is handed back as it was
   pub same-hart : t .hart ≡ h
-  same-hart = each (λ (x : Translated). x .hart ≡ h) (λ x e. refl) (λ k. refl)
+  same-hart = each h base bytes kind address width (λ (x : Translated). x .hart ≡ h) (λ x e. refl) (λ k. refl)
 
   -- a refusal leaves the hart as given and the list empty
   pub refusal-empty : (n : ℕ) → t .answer ≡ Answer.Refused n → t ≡ unwalked h (Answer.Refused n)
   refusal-empty n e =
-      each (λ (x : Translated). x .answer ≡ Answer.Refused n → x ≡ unwalked h (Answer.Refused n)) (λ x u q. ap (unwalked h) q) (λ k q. never-refused (ran .end) n q) e
+      each h base bytes kind address width (λ (x : Translated). x .answer ≡ Answer.Refused n → x ≡ unwalked h (Answer.Refused n)) (λ x u q. ap (unwalked h) q) (λ k q. never-refused (ran .end) n q) e
     where
       never-refused : {P : Type 0} (o : Outcome Machine) (n : ℕ) → answer o ≡ Answer.Refused n → P
       never-refused (yields m) n q = clash (cc)
@@ -90,7 +77,7 @@ module _ (h : Hart) (base : ℕ) (bytes : List ℕ) (kind : Kind) (address width
 
   -- n first-stage levels over m second-stage levels: at most (n + 1) (m + 1) - 1 reads; a stage that is off has none
   pub count-bound : t .count ≤ a .first .levels * suc (a .second .levels) + a .second .levels
-  count-bound = each (λ (x : Translated). x .count ≤ a .first .levels * suc (a .second .levels) + a .second .levels) (λ x e. omega arith) (λ k. at-most a base (length bytes) (look base bytes))
+  count-bound = each h base bytes kind address width (λ (x : Translated). x .count ≤ a .first .levels * suc (a .second .levels) + a .second .levels) (λ x e. omega arith) (λ k. at-most a base (length bytes) (look base bytes))
 
   pub both-stages : t .count ≤ 15
   both-stages =
@@ -109,7 +96,7 @@ module _ (h : Hart) (base : ℕ) (bytes : List ℕ) (kind : Kind) (address width
 
   -- the places beyond the count are zero
   pub beyond-count : drop (t .count) (t .reads) ≡ unused (places - t .count)
-  beyond-count = each (λ (x : Translated). drop (x .count) (x .reads) ≡ unused (places - x .count)) (λ x e. refl) (λ k. drop-append-seam (ran .reads) (unused (places - length (ran .reads))))
+  beyond-count = each h base bytes kind address width (λ (x : Translated). drop (x .count) (x .reads) ≡ unused (places - x .count)) (λ x e. refl) (λ k. drop-append-seam (ran .reads) (unused (places - length (ran .reads))))
 
   -- ---- with the second stage on
 
@@ -118,18 +105,18 @@ module _ (h : Hart) (base : ℕ) (bytes : List ℕ) (kind : Kind) (address width
     pub guest-entries : (earlier : List Read) (x : Read) (later : List Read) → listed t ≡ earlier ++ (x ∷ later) → x .stage ≡ 1 → EndsThrough (a .second) entryNeed earlier (x .address) 8
     unfolding accessOf
     guest-entries earlier x later e one =
-        each (λ (r : Translated). listed r ≡ earlier ++ (x ∷ later) → EndsThrough (a .second) entryNeed earlier (x .address) 8) (λ y u q. not-empty earlier x later q)
+        each h base bytes kind address width (λ (r : Translated). listed r ≡ earlier ++ (x ∷ later) → EndsThrough (a .second) entryNeed earlier (x .address) 8) (λ y u q. not-empty earlier x later q)
         (λ k q. guest-entry (look base bytes) base (length bytes) a on (k .k) (k .small) (k .multiple) earlier x later (sym (listed-walk h ran) ∙ q) one) e
 
     -- the bytes of the access at an address answered lie on a page that the second-stage walk ending the list let through with its own right and U
     pub answer-let-through : (m : Machine) → t .answer ≡ Answer.Address m → EndsThrough (a .second) (secondNeed a) (listed t) m width
     unfolding accessOf
     answer-let-through m e =
-        each (λ (r : Translated). r .answer ≡ Answer.Address m → EndsThrough (a .second) (secondNeed a) (listed r) m width) at-once
+        each h base bytes kind address width (λ (r : Translated). r .answer ≡ Answer.Address m → EndsThrough (a .second) (secondNeed a) (listed r) m width) at-once
         (λ k q. rw (listed-walk h ran)
         (subst (λ (n : ℕ). EndsThrough (a .second) (secondNeed a) (ran .reads) m n) (sym (k .size)) (answer-page (look base bytes) base (length bytes) a on (k .k) (k .small) (k .multiple) m (address-yielded (ran .end) m q)))) e
       where
-        at-once : (x : Answer) → AtOnce x → x ≡ Answer.Address m → EndsThrough (a .second) (secondNeed a) (listed (unwalked h x)) m width
+        at-once : (x : Answer) → AtOnce h base bytes kind address width x → x ≡ Answer.Address m → EndsThrough (a .second) (secondNeed a) (listed (unwalked h x)) m width
         at-once x (refused n) q = clash (cc)
         at-once x misaligned-by q = clash (cc)
 

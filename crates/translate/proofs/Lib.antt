@@ -1,2 +1,4 @@
 pub mod Accesses
+pub mod Cases
 pub mod Demand
+pub mod Delivered

@@ -5,4 +5,5 @@ pub mod Loops
 pub mod Images
 pub mod Offsets
 pub mod Guarded
+pub mod Raised
 pub mod Places

@@ -1,0 +1,38 @@
+-- What a translation comes to: at once a refusal or a misalignment, else the walk. Assumes nothing.
+use mathlib.Core.Bool.{not}
+use mathlib.Core.List.{List}
+use Prim.Native.Nat.{ℕ}
+use lib.ListN.{length}
+use Rattle.bits.proofs.Bools.{pick-both}
+use Rattle.hart.specs.declared.state.Hart.{Hart}
+use Rattle.hart.specs.Hart.{passes}
+use Rattle.image.specs.Image.{unfit}
+use Rattle.rules.specs.declared.Kind.{Kind}
+use Rattle.rules.specs.declared.Machine.{Machine}
+use Rattle.rules.specs.Faults.{misalignment}
+use Rattle.walk.specs.Tree.{Ran, run}
+use Rattle.walk.specs.Stages.{Outcome, look, walkOf}
+use Rattle.translate.specs.declared.Answer.{Answer}
+use Rattle.translate.specs.declared.Translated.{Translated}
+use Rattle.translate.specs.Effective.{accessOf}
+use Rattle.translate.specs.Translated.{unsupported, misaligned, unwalked, walkedTo, translated}
+use Rattle.translate.proofs.Accesses.{Aligned, aligned}
+
+module _ (h : Hart) (base : ℕ) (bytes : List ℕ) (kind : Kind) (address width : ℕ) where
+  -- the walk over the image
+  abbrev pub ranOf : Ran (Outcome Machine)
+  ranOf = run (look base bytes) (walkOf base (length bytes) (accessOf h kind address width))
+
+  -- the answers that no walk gives
+  pub data AtOnce : Answer → Type 0 where
+    refused : (n : ℕ) → AtOnce (Answer.Refused n)
+    misaligned-by : AtOnce (Answer.Fault (misalignment (accessOf h kind address width)))
+
+  -- what holds of these and of the walk holds of every translation
+  pub each : (P : Translated → Type 0) → ((x : Answer) → AtOnce x → P (unwalked h x)) → (Aligned address width → P (walkedTo h ranOf)) → P (translated h base bytes kind address width)
+  unfolding translated
+  each P u w =
+      pick-both P (not (passes h)) _ _ (λ e. u (Answer.Refused 2) (refused 2))
+      (λ e. pick-both P (unfit base (length bytes)) _ _ (λ e. u (Answer.Refused 1) (refused 1))
+      (λ e. pick-both P (unsupported kind address width) _ _ (λ e. u (Answer.Refused 3) (refused 3))
+      (λ p. pick-both P (misaligned kind address width) _ _ (λ e. u (Answer.Fault (misalignment (accessOf h kind address width))) misaligned-by) (λ q. w (aligned kind address width p q)))))
