@@ -42,3 +42,10 @@ pub fn entry_in<'a>(w: Window<'a>, address: u64) -> Entry
 {
     image::fetch(w.base, w.bytes, address)
 }
+
+// The translation of an access over a base and bytes, through a window made of them.
+pub fn translate_through(base: u64, bytes: &[u8], r: Request) -> Translated
+    ensures { λ t. ⌜ t ≡ translation base (now (bytes .entry)) r ⌝ }
+{
+    translate_in(Window { base, bytes }, r)
+}
