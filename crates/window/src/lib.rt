@@ -1,4 +1,4 @@
-// The image as a window of base and bytes: each function takes it apart and calls covered code.
+// The image as a window of base and bytes. Two functions take it apart and call code over the two; one makes it.
 ghost use mathlib.Core.Path.{_≡_};
 ghost use Rattle.image.specs.Image.{entry};
 ghost use Rattle.window.specs.Window.{translation};
@@ -41,4 +41,11 @@ pub fn entry_in<'a>(w: Window<'a>, address: u64) -> Entry
     ensures { λ r. ⌜ r ≡ entry (w .entry .base) (now (w .entry .bytes)) address ⌝ }
 {
     image::fetch(w.base, w.bytes, address)
+}
+
+// The translation of an access over a base and lent bytes, through a window made of them.
+pub fn translate_through(base: u64, lent: &[u8], r: Request) -> Translated
+    ensures { λ t. ⌜ t ≡ translation base (now (lent .entry)) r ⌝ }
+{
+    translate_in(Window { base, bytes: lent }, r)
 }
