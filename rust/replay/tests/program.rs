@@ -226,3 +226,19 @@ fn very_long_lines() {
         assert!(output.stderr.len() < 300);
     }
 }
+
+#[test]
+fn the_readmes_tour_is_what_the_program_writes() {
+    let home = concat!(env!("CARGO_MANIFEST_DIR"), "/../../");
+    let text = |path| std::fs::read_to_string(format!("{home}{path}")).expect("the file is read");
+    let readme = text("README.md");
+    let blocks: Vec<&str> = readme
+        .split("```text\n")
+        .skip(1)
+        .filter_map(|after| after.split("```").next())
+        .collect();
+    let script = "examples/base-80000000.replay";
+    assert!(text(script).contains(blocks[0]));
+    let explained = replay(&["--explain", &format!("{home}{script}")], b"").stdout;
+    assert!(explained.starts_with(blocks[1].as_bytes()));
+}
