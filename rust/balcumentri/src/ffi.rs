@@ -3,6 +3,8 @@
 //! Each call's slices have the lengths that the face asks for and do not overlap, so each is taken and writes its result.
 #![allow(unsafe_code)]
 
+use crate::translation::{Image, Read};
+
 /// How many registers the table has.
 pub const REGISTERS: usize = 29;
 
@@ -12,8 +14,22 @@ pub type HartWords = [u64; 32];
 pub type StepWords = [u64; 34];
 /// A register access's result.
 pub type AccessWords = [u64; 35];
-/// A translation's result.
-pub type TranslationWords = [u64; 67];
+/// A translation's result: 67 words, by name.
+#[derive(Clone, Copy, Debug, Default)]
+#[repr(C)]
+pub struct TranslationWords {
+    pub kind: u64,
+    pub number: u64,
+    pub value: u64,
+    pub second: u64,
+    pub word: u64,
+    pub flag: u64,
+    pub count: u64,
+    pub places: [Read; 15],
+}
+
+const TRANSLATION_WORDS: usize = 67;
+const _: () = assert!(size_of::<TranslationWords>() == 8 * TRANSLATION_WORDS);
 
 /// A call of the face that takes a hart and writes an event's result.
 type Event = unsafe extern "C" fn(*const u64, usize, *mut u64, usize) -> u64;
@@ -106,31 +122,32 @@ pub fn passes(hart: &HartWords) -> bool {
 }
 
 /// The translation of an access; kind 0 is a fetch, 1 a load, 2 a store.
+#[inline]
 pub fn translate(
     hart: &HartWords,
-    base: u64,
-    bytes: &[u8],
+    image: Image<'_>,
     kind: u64,
     address: u64,
     width: u64,
-) -> TranslationWords {
-    let mut out = [0; 67];
-    // SAFETY: hart, bytes and out are lent for the call, each with its own length; out is a new local, so it overlaps neither.
+    out: &mut TranslationWords,
+) {
+    let words: *mut TranslationWords = out;
+    // SAFETY: hart, the bytes and out are lent for the call, each with its own length; out is lent mutably, so it overlaps neither.
+    // It is 67 words by its layout and the assertion on its size, and any words are a value of it.
     unsafe {
         balcumentri_translate(
             hart.as_ptr(),
             hart.len(),
-            base,
-            bytes.as_ptr(),
-            bytes.len(),
+            image.base,
+            image.bytes.as_ptr(),
+            image.bytes.len(),
             kind,
             address,
             width,
-            out.as_mut_ptr(),
-            out.len(),
+            words.cast(),
+            TRANSLATION_WORDS,
         )
     };
-    out
 }
 
 /// Reads a register.

@@ -96,15 +96,16 @@ impl Hart {
     }
 
     /// The translation of an access over an image.
+    #[inline]
     pub fn translate(&self, image: Image<'_>, access: Access) -> Translation {
-        Translation::from_words(&ffi::translate(
-            &self.words,
-            image.base,
-            image.bytes,
-            access.kind.number(),
-            access.address,
-            access.width,
-        ))
+        let Access {
+            kind,
+            address,
+            width,
+        } = access;
+        Translation::written(|out| {
+            ffi::translate(&self.words, image, kind.number(), address, width, out)
+        })
     }
 
     /// Reads the register with a number.

@@ -30,6 +30,11 @@ mod translation;
 pub use hart::{Accessed, Hart, Outcome};
 pub use translation::{Access, Answer, Fault, Image, Kind, Read, Translation};
 
+// The README's Rust lines are run as a test.
+#[cfg(doctest)]
+#[doc = include_str!("../../../README.md")]
+struct Readme;
+
 /// The place of the register with a number in the table, 0 to 28.
 ///
 /// ```

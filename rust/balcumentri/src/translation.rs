@@ -60,7 +60,8 @@ pub enum Answer {
 }
 
 /// A page-table entry that was read.
-#[derive(Clone, Copy, Debug, PartialEq, Eq)]
+#[derive(Clone, Copy, Debug, Default, PartialEq, Eq)]
+#[repr(C)]
 pub struct Read {
     /// 1 for the first stage, 2 for the second.
     pub stage: u64,
@@ -77,43 +78,42 @@ pub struct Read {
 pub struct Translation {
     /// The answer.
     pub answer: Answer,
-    places: [Read; 15],
-    count: usize,
+    words: TranslationWords,
 }
 
 impl Translation {
     /// The entries, in the order in which they were read.
     pub fn reads(&self) -> &[Read] {
-        &self.places[..self.count]
+        let count = self.words.count.min(15) as usize;
+        &self.words.places[..count]
     }
 
-    pub(crate) fn from_words(words: &TranslationWords) -> Self {
-        let [kind, number, value, second, word, flag, count, places @ ..] = words;
-        let answer = match kind {
-            0 => Answer::Address(*number),
-            1 => Answer::Refused(*number),
+    /// What a call writes into the words that it is lent.
+    #[inline]
+    pub(crate) fn written(call: impl FnOnce(&mut TranslationWords)) -> Self {
+        let mut translation = Translation {
+            answer: Answer::Refused(0),
+            words: TranslationWords::default(),
+        };
+        let words = &mut translation.words;
+        call(words);
+        translation.answer = match words.kind {
+            0 => Answer::Address(words.number),
+            1 => Answer::Refused(words.number),
             _ => Answer::Fault(Fault {
-                cause: *number,
-                value: *value,
-                second: *second,
-                word: *word,
-                flag: *flag == 1,
+                cause: words.number,
+                value: words.value,
+                second: words.second,
+                word: words.word,
+                flag: words.flag == 1,
             }),
         };
-        Translation {
-            answer,
-            places: std::array::from_fn(|i| Read {
-                stage: places[4 * i],
-                level: places[4 * i + 1],
-                address: places[4 * i + 2],
-                value: places[4 * i + 3],
-            }),
-            count: (*count as usize).min(15),
-        }
+        translation
     }
 }
 
 impl Kind {
+    #[inline]
     pub(crate) fn number(self) -> u64 {
         match self {
             Kind::Fetch => 0,

@@ -6,6 +6,7 @@ use std::path::Path;
 use std::time::{Duration, Instant};
 
 use crate::coverage::Coverage;
+use crate::fuzz::{fuzzed, Corpus};
 use crate::generate::{bad_script, script};
 use crate::program::{Outcome, Program, Script, Status};
 use crate::shrink::shrink;
@@ -28,7 +29,7 @@ pub struct Options {
     pub seed: u64,
 }
 
-/// Two programs that gave different bytes or ended differently, and the smallest script that shows it.
+/// Two programs that gave different bytes or ended differently, or both ended wrongly, and the smallest script that shows it.
 #[derive(Clone, Debug, PartialEq, Eq)]
 pub struct Difference {
     /// The place of the script in the run.
@@ -76,6 +77,53 @@ pub fn compare(
     Ok(coverage)
 }
 
+/// How the scripts of a fuzzing run ended.
+#[derive(Clone, Copy, Debug, Default, PartialEq, Eq)]
+pub struct Fuzzed {
+    /// Scripts run whole.
+    pub whole: u64,
+    /// Scripts that ended at a bad line.
+    pub bad: u64,
+    /// Bytes of output compared.
+    pub bytes: u64,
+}
+
+/// Runs both programs over so many fuzzed scripts of a seed. Ends at the first difference.
+pub fn fuzz(
+    first: &dyn Program,
+    second: &dyn Program,
+    scripts: u64,
+    seed: u64,
+    corpus: &Corpus,
+    folder: &Path,
+) -> Result<Fuzzed, Failure> {
+    let mut ended = Fuzzed::default();
+    for place in 0..scripts {
+        let script = fuzzed(seed, place, corpus, folder);
+        let output = compare_on(first, second, place, &script)?;
+        ended.bytes += output.len() as u64;
+        if ends_with_error(&output) {
+            ended.bad += 1;
+        } else {
+            ended.whole += 1;
+        }
+    }
+    Ok(ended)
+}
+
+/// Whether the last line is `error LINE`.
+fn ends_with_error(output: &[u8]) -> bool {
+    let lines = output.strip_suffix(b"\n").unwrap_or(output);
+    let last = lines.rsplit(|byte| *byte == b'\n').next();
+    last.is_some_and(|line| line.starts_with(b"error "))
+}
+
+/// Whether two programs gave the same, and ended by themselves: with exit status 1 exactly after an `error` line.
+fn good(one: &Outcome, other: &Outcome) -> bool {
+    let status = i32::from(ends_with_error(&one.output));
+    one == other && one.status == Status::Exit(status)
+}
+
 /// Runs both programs on one script; the output where they agree.
 fn compare_on(
     first: &dyn Program,
@@ -84,7 +132,7 @@ fn compare_on(
     script: &Script,
 ) -> Result<Vec<u8>, Failure> {
     let (one, other) = both(first, second, script)?;
-    if one == other {
+    if good(&one, &other) {
         return Ok(one.output);
     }
     let begin = Instant::now();
@@ -94,13 +142,13 @@ fn compare_on(
         }
         let candidate = script.with_lines(lines.to_vec());
         match both(first, second, &candidate) {
-            Ok((one, other)) => one != other,
+            Ok((one, other)) => !good(&one, &other),
             Err(_) => false,
         }
     });
     let mut smallest = script.with_lines(lines);
     let (mut one, mut other) = both(first, second, &smallest)?;
-    if one == other {
+    if good(&one, &other) {
         // It does not show twice: the whole script is all there is.
         smallest = script.clone();
         (one, other) = both(first, second, &smallest)?;
@@ -143,9 +191,14 @@ impl fmt::Display for Difference {
         } else {
             "a file"
         };
+        let what = if self.first == self.second {
+            "both programs end wrongly"
+        } else {
+            "the programs differ"
+        };
         writeln!(
             formatter,
-            "the programs differ in script {}; the smallest script that shows it (from {way}):",
+            "{what} in script {}; the smallest script that shows it (from {way}):",
             self.place
         )?;
         for line in &self.script.lines {

@@ -7,6 +7,7 @@
 //! | [`tables`] | page tables of both stages, written by `put` lines |
 //! | [`scenes`] | the scenes that a script is made of |
 //! | [`generate`] | a whole script from a seed |
+//! | [`fuzz`] | damaged scripts and random bytes from a seed |
 //! | [`coverage`] | what the scripts and their answers reached, and what they must reach |
 //! | [`program`] | a program under comparison: a process, or a function in this process |
 //! | [`shrink`] | the smallest script that still shows a difference |
@@ -17,6 +18,7 @@
 
 pub mod comparing;
 pub mod coverage;
+pub mod fuzz;
 pub mod generate;
 pub mod program;
 pub mod rng;

@@ -1,22 +1,36 @@
 //! `compare FIRST SECOND [--events N] [--seed S]`: runs two programs over generated replay scripts.
+//! `compare FIRST SECOND --fuzz N [--corpus FOLDER] [--seed S]`: over N random and damaged ones.
 //!
 //! Exit status: 0 where they agree everywhere (and a run of 200,000 events or more has reached everything that can be
 //! reached), 1 where they differ or something was not reached, 2 where the comparison could not be made.
 
 use std::ffi::OsString;
 use std::io::{self, Write};
+use std::path::Path;
 use std::process::ExitCode;
 use std::time::{Instant, SystemTime, UNIX_EPOCH};
 
-use compare::comparing::{compare, Failure, Options, FULL_RUN};
+use compare::comparing::{compare, fuzz, Failure, Options, FULL_RUN};
+use compare::fuzz::Corpus;
 use compare::program::{Folder, Process};
 
-const USAGE: &str = "usage: compare FIRST SECOND [--events N] [--seed S]   (decimal numbers)";
+const USAGE: &str =
+    "usage: compare FIRST SECOND [--events N | --fuzz N [--corpus FOLDER]] [--seed S]   (decimal numbers)";
+
+/// What the command line asks for.
+struct Request {
+    first: OsString,
+    second: OsString,
+    options: Options,
+    /// How many fuzzed scripts, instead of generated ones.
+    fuzz: Option<u64>,
+    corpus: Corpus,
+}
 
 fn main() -> ExitCode {
     let arguments: Vec<OsString> = std::env::args_os().skip(1).collect();
     match read_arguments(&arguments) {
-        Ok((first, second, options)) => match run(&first, &second, &options) {
+        Ok(request) => match run(&request) {
             Ok(code) => code,
             Err(sentence) => complain(&sentence),
         },
@@ -24,17 +38,24 @@ fn main() -> ExitCode {
     }
 }
 
-/// The two programs and the options.
-fn read_arguments(arguments: &[OsString]) -> Result<(OsString, OsString, Options), String> {
+fn read_arguments(arguments: &[OsString]) -> Result<Request, String> {
     let mut options = Options {
         events: FULL_RUN,
         seed: seed_from_clock(),
     };
     let mut programs = Vec::new();
+    let mut scripts = None;
+    let mut corpus = Corpus::default();
     let mut rest = arguments.iter();
     while let Some(argument) = rest.next() {
         match argument.to_str() {
             Some("--events") => options.events = number("--events", rest.next())?,
+            Some("--fuzz") => scripts = Some(number("--fuzz", rest.next())?),
+            Some("--corpus") => {
+                let folder = rest.next().ok_or("--corpus needs a folder")?;
+                corpus = Corpus::of_folder(Path::new(folder))
+                    .map_err(|error| format!("{folder:?} can't be read: {error}"))?;
+            }
             Some("--seed") => options.seed = number("--seed", rest.next())?,
             Some(option) if option.starts_with("--") => {
                 return Err(format!("{option} is no option"));
@@ -43,7 +64,13 @@ fn read_arguments(arguments: &[OsString]) -> Result<(OsString, OsString, Options
         }
     }
     match programs.as_slice() {
-        [first, second] => Ok((first.clone(), second.clone(), options)),
+        [first, second] => Ok(Request {
+            first: first.clone(),
+            second: second.clone(),
+            options,
+            fuzz: scripts,
+            corpus,
+        }),
         _ => Err("two programs are needed".to_string()),
     }
 }
@@ -62,20 +89,37 @@ fn seed_from_clock() -> u64 {
         .map_or(1, |time| time.as_nanos() as u64 % 1_000_000_000)
 }
 
-fn run(first: &OsString, second: &OsString, options: &Options) -> Result<ExitCode, String> {
+fn run(request: &Request) -> Result<ExitCode, String> {
+    let options = &request.options;
     let folder = Folder::new().map_err(|error| format!("no folder for the scripts: {error}"))?;
     let start = |path: &OsString| {
         Process::new(path, &folder).map_err(|error| format!("{path:?} can't be run: {error}"))
     };
-    let (one, other) = (start(first)?, start(second)?);
-    say(&format!("seed {}, events {}", options.seed, options.events));
+    let (one, other) = (start(&request.first)?, start(&request.second)?);
     let begin = Instant::now();
-    match compare(&one, &other, options, folder.path()) {
-        Ok(coverage) => {
+    let seconds = || say(&format!("seconds {:.1}", begin.elapsed().as_secs_f64()));
+    let ended = if let Some(scripts) = request.fuzz {
+        say(&format!("seed {}, fuzzed scripts {scripts}", options.seed));
+        let (seed, corpus) = (options.seed, &request.corpus);
+        fuzz(&one, &other, scripts, seed, corpus, folder.path()).map(|ended| {
+            say(&format!(
+                "run whole {}, ended at a bad line {}, bytes compared {}",
+                ended.whole, ended.bad, ended.bytes
+            ));
+            seconds();
+            say("OK: no difference");
+            ExitCode::SUCCESS
+        })
+    } else {
+        say(&format!("seed {}, events {}", options.seed, options.events));
+        compare(&one, &other, options, folder.path()).map(|coverage| {
             say(coverage.table().trim_end());
-            say(&format!("seconds {:.1}", begin.elapsed().as_secs_f64()));
-            Ok(judge(options, &coverage.missing()))
-        }
+            seconds();
+            judge(options, &coverage.missing())
+        })
+    };
+    match ended {
+        Ok(code) => Ok(code),
         Err(Failure::Different(difference)) => {
             say(&difference.to_string());
             say(&format!(

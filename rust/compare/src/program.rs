@@ -3,7 +3,7 @@
 use std::ffi::OsString;
 use std::io::{self, Read, Write};
 use std::path::{Path, PathBuf};
-use std::process::{Command, Stdio};
+use std::process::{Command, ExitStatus, Stdio};
 use std::sync::mpsc;
 use std::time::Duration;
 
@@ -45,6 +45,12 @@ pub enum Status {
     Broken,
     /// Not at all within the time it was given.
     TooLong,
+}
+
+impl From<ExitStatus> for Status {
+    fn from(status: ExitStatus) -> Status {
+        status.code().map_or(Status::Broken, Status::Exit)
+    }
 }
 
 /// What a program gave for a script.
@@ -188,11 +194,10 @@ impl Program for Process<'_> {
         match receiver.recv_timeout(TIME_LIMIT) {
             Ok(output) => {
                 let output = output?;
-                let status = match child.wait()?.code() {
-                    Some(code) => Status::Exit(code),
-                    None => Status::Broken,
-                };
-                Ok(Outcome { output, status })
+                Ok(Outcome {
+                    output,
+                    status: child.wait()?.into(),
+                })
             }
             Err(_) => {
                 let _ = child.kill();

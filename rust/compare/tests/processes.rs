@@ -66,6 +66,9 @@ fn a_wrong_command_line() {
         &["true", "true", "--events", "x"],
         &["true", "true", "--seed", "-1"],
         &["true", "true", "--other"],
+        &["true", "true", "--fuzz"],
+        &["true", "true", "--fuzz", "1", "--corpus"],
+        &["true", "true", "--fuzz", "1", "--corpus", "no/such/folder"],
     ] {
         let output = compare(arguments);
         assert_eq!(output.status.code(), Some(2), "{arguments:?}");
@@ -81,6 +84,29 @@ fn a_full_run_that_reaches_nothing_fails() {
     assert_eq!(output.status.code(), Some(1), "{text}");
     assert!(text.contains("not reached: refusal 4"), "{text}");
     assert!(text.contains("not reached: a list of 15 reads"), "{text}");
+}
+
+#[test]
+fn fuzzed_scripts() {
+    let examples = Path::new(env!("CARGO_MANIFEST_DIR")).join("../../examples");
+    let examples = examples.to_str().unwrap();
+    let fuzz = |first, second| {
+        let corpus = ["--corpus", examples];
+        compare(&[&[first, second, "--fuzz", "40", "--seed", "5"][..], &corpus].concat())
+    };
+    let output = fuzz("true", "true");
+    let text = said(&output);
+    assert_eq!(output.status.code(), Some(0), "{text}");
+    assert!(
+        text.contains("run whole 40, ended at a bad line 0"),
+        "{text}"
+    );
+    // Two programs that agree, but end with status 1 and no error line.
+    let output = fuzz("false", "false");
+    let text = said(&output);
+    assert_eq!(output.status.code(), Some(1), "{text}");
+    assert!(text.contains("both programs end wrongly"), "{text}");
+    assert_eq!(fuzz("cat", "true").status.code(), Some(1));
 }
 
 #[test]

@@ -127,7 +127,7 @@ impl View {
         if self.privilege != 0 && user && !self.sum {
             return Some("supervisor mode needs SUM for a U page");
         }
-        right(entry, self.kind, self.mxr)
+        right(entry, self.kind, self.mxr, "a load needs R, or X with MXR")
     }
 
     /// The second stage's right that is missing at a leaf.
@@ -136,9 +136,11 @@ impl View {
             return Some("the second stage needs U");
         }
         if guest_entry {
-            return right(entry, Kind::Load, false);
+            let needs_r = "the hart's read of a guest entry needs R";
+            return right(entry, Kind::Load, false, needs_r);
         }
-        right(entry, self.kind, self.machine_mxr)
+        let load = "a load needs R, or X with mstatus.MXR";
+        right(entry, self.kind, self.machine_mxr, load)
     }
 
     /// The fault rule that holds at an entry.
@@ -168,12 +170,12 @@ impl View {
     }
 }
 
-/// The right that an access needs and a leaf lacks.
-fn right(entry: u64, kind: Kind, mxr: bool) -> Option<&'static str> {
+/// The right that an access needs and a leaf lacks; `load` says what a load needs.
+fn right(entry: u64, kind: Kind, mxr: bool, load: &'static str) -> Option<&'static str> {
     let (read, write, execute) = (has(entry, 1), has(entry, 2), has(entry, 3));
     match kind {
         Kind::Fetch if !execute => Some("a fetch needs X"),
-        Kind::Load if !(read || execute && mxr) => Some("a load needs R, or X with MXR"),
+        Kind::Load if !(read || execute && mxr) => Some(load),
         Kind::Store if !write => Some("a store needs W"),
         _ => None,
     }

@@ -1,5 +1,6 @@
 //! The program itself: answers, bad scripts, exit status.
 
+use compare::program::Folder;
 use std::io::Write;
 use std::process::{Command, Output, Stdio};
 
@@ -141,31 +142,103 @@ fn help_is_written() {
     assert!(output.stdout.starts_with(b"replay: "));
 }
 
-/// Bytes that are no script, and scripts with bytes changed: the program ends by itself with status 0 or 1.
+/// Runs a script from a file; the program may write as much as it likes.
+fn from_file(script: &[u8]) -> Output {
+    let folder = Folder::new().expect("a folder is made");
+    let file = folder.path().join("script.replay");
+    std::fs::write(&file, script).expect("the script is written");
+    let program = Command::new(env!("CARGO_BIN_EXE_replay"))
+        .arg(&file)
+        .output();
+    program.expect("the program ends")
+}
+
 #[test]
-fn any_bytes_are_taken() {
-    let mut state = 1_u64;
-    let mut random = move || {
-        state = state
-            .wrapping_mul(6364136223846793005)
-            .wrapping_add(1442695040888963407);
-        (state >> 33) as usize
-    };
-    let script = b"image 0 2000\nput 8 20000401\nhart 1 1 0\nreg 680 8000000000000000\nload 8 8\nset 100 ff 1\ntrap d 0 0 0 1\nshow\n";
-    for round in 0..150 {
-        let mut bytes: Vec<u8> = script.to_vec();
-        if round % 3 == 0 {
-            bytes = (0..random() % 200).map(|_| random() as u8).collect();
-        }
-        for _ in 0..random() % 4 {
-            if !bytes.is_empty() {
-                let at = random() % bytes.len();
-                bytes[at] = random() as u8;
-            }
-        }
-        for arguments in [&[][..], &["--explain"]] {
-            let status = replay(arguments, &bytes).status.code();
-            assert!(matches!(status, Some(0 | 1)), "{status:?} {bytes:?}");
-        }
+fn a_reader_that_goes_away() {
+    let mut child = Command::new(env!("CARGO_BIN_EXE_replay"))
+        .stdin(Stdio::piped())
+        .stdout(Stdio::piped())
+        .stderr(Stdio::piped())
+        .spawn()
+        .expect("the program starts");
+    drop(child.stdout.take());
+    let mut stdin = child.stdin.take().expect("standard input is a pipe");
+    let _ = stdin.write_all(&b"show\n".repeat(20_000));
+    drop(stdin);
+    let output = child.wait_with_output().expect("the program ends");
+    assert_eq!(output.status.code(), Some(2));
+    let sentence = String::from_utf8_lossy(&output.stderr);
+    assert!(sentence.contains("can't be written"), "{sentence}");
+    assert!(!sentence.contains("panicked"), "{sentence}");
+}
+
+#[cfg(unix)]
+#[test]
+fn a_script_and_an_image_without_the_right_to_read() {
+    use std::os::unix::fs::PermissionsExt;
+    let folder = Folder::new().expect("a folder is made");
+    let closed = folder.path().join("closed");
+    std::fs::write(&closed, "show\n").expect("the file is written");
+    let mode = std::fs::Permissions::from_mode(0o000);
+    std::fs::set_permissions(&closed, mode).expect("its rights are taken");
+    if std::fs::File::open(&closed).is_ok() {
+        return; // root reads everything
     }
+    let path = closed.to_str().expect("the path is text");
+    assert_eq!(replay(&[path], b"").status.code(), Some(2));
+    assert_eq!(
+        bad(format!("file 0 {path}\n").as_bytes()),
+        Some("1".to_owned())
+    );
+}
+
+#[test]
+fn images_of_128_mib_and_more() {
+    assert_eq!(
+        answers(b"image 0 8000000\nput 7fffff8 1\nload 0 8\nimage 0 4000000\nload 3fffff8 8\n"),
+        "refused 1\naddress 3fffff8\n"
+    );
+    assert_eq!(
+        bad(b"image 0 8000000\nput 7fffff9 1\n"),
+        Some("2".to_owned())
+    );
+    assert_eq!(bad(b"image 0 40000001\n"), Some("1".to_owned()));
+}
+
+#[test]
+fn a_million_lines() {
+    let lines = 1_000_000;
+    let output = from_file(&b"wfi\n".repeat(lines));
+    assert_eq!(output.status.code(), Some(0));
+    assert_eq!(output.stdout, b"ok\n".repeat(lines));
+    let bad = [&b"\n".repeat(lines)[..], b"wfi 0"].concat();
+    assert_eq!(from_file(&bad).stdout, b"error f4241\n");
+}
+
+#[test]
+fn very_long_lines() {
+    let blanks = b" ".repeat(5_000_000);
+    let line = [&blanks[..], b"read 300", &blanks, b"# end"].concat();
+    assert_eq!(from_file(&line).stdout, b"value a00000000\n");
+    for byte in [b"f", b"0", b"\0"] {
+        let output = from_file(&[&b"read "[..], &byte.repeat(5_000_000)].concat());
+        assert_eq!(output.stdout, b"error 1\n");
+        assert!(output.stderr.len() < 300);
+    }
+}
+
+#[test]
+fn the_readmes_tour_is_what_the_program_writes() {
+    let home = concat!(env!("CARGO_MANIFEST_DIR"), "/../../");
+    let text = |path| std::fs::read_to_string(format!("{home}{path}")).expect("the file is read");
+    let readme = text("README.md");
+    let blocks: Vec<&str> = readme
+        .split("```text\n")
+        .skip(1)
+        .filter_map(|after| after.split("```").next())
+        .collect();
+    let script = "examples/base-80000000.replay";
+    assert!(text(script).contains(blocks[0]));
+    let explained = replay(&["--explain", &format!("{home}{script}")], b"").stdout;
+    assert!(explained.starts_with(blocks[1].as_bytes()));
 }
