@@ -34,7 +34,7 @@ verdict c place row writes =
     -- in VU all S, VS and H numbers give 22
     || isVU c)
 
--- in VS an S number reaches its VS register: the same seven, seven places further
+-- in VS (with V=1 no other mode gets so far) an S number reaches its VS register: the same seven, seven places further
 abbrev pub reached : (v level place : ℕ) → ℕ
 reached v level place = pick (eqb v 1 && eqb level supervisor) (place + 7) place
 

@@ -28,14 +28,14 @@ done h = step h Done
 abbrev pub refused : Hart → ℕ → Step
 refused h number = step h (Refused number)
 
--- any other event that traps delivers at once
+-- any event that traps, but for a translation, delivers at once
 abbrev pub trapped : Hart → Exception → Step
 trapped h t = step (delivered h t) (Trapped (t .cause))
 
+-- causes 2 and 22 raised by the model, and environment calls: value 0; the flag is clear; second value and word are 0
 abbrev pub cause-only : ℕ → Exception
 cause-only cause = record { cause = cause; value = 0; second = 0; word = 0; flag = false }
 
--- causes 2 and 22 raised by the model have value 0; the flag is clear; second value and word are 0
 abbrev pub raised : Hart → ℕ → Step
 raised h cause = trapped h (cause-only cause)
 

@@ -33,7 +33,7 @@ abbrev pub _with_ : List ℕ → List Write → List ℕ
 rs with [] = rs
 rs with (w ∷ ws) = set rs (w .place) (w .value) with ws
 
--- the bits that a write stores are clear in every register
+-- a hart to start from: every register holds what a write of 0 leaves
 abbrev pub reset : (v privilege pc : ℕ) → Hart
 reset v privilege pc = record {
   v = v;

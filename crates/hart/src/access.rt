@@ -95,7 +95,7 @@ impl Hart {
     }
 
     // An access to the register with a number.
-    pub fn access(self, form: Form, number: u64, w: u64, writes: bool) -> Accessed
+    fn access(self, form: Form, number: u64, w: u64, writes: bool) -> Accessed
         ensures { λ r. ⌜ r ≡ access self form number w writes ⌝ }
     {
         let own = csr::refusal(number);

@@ -1,6 +1,6 @@
 // What an event comes to, and the order in which it is settled.
 ghost use mathlib.Core.Path.{_≡_};
-ghost use Rattle.hart.specs.Event.{trapped, raised, settled, moved};
+ghost use Rattle.hart.specs.Event.{trapped, cause-only, raised, settled, moved};
 use crate::state::Hart;
 use exceptions::Exception;
 use privilege::mode::Verdict;
@@ -17,6 +17,19 @@ pub struct Step {
     pub outcome: Outcome,
 }
 
+// A cause with value 0 and the flag clear.
+pub fn cause_only(cause: u64) -> Exception
+    ensures { λ r. ⌜ r ≡ cause-only cause ⌝ }
+{
+    Exception {
+        cause,
+        value: 0,
+        second: 0,
+        word: 0,
+        flag: false,
+    }
+}
+
 impl Hart {
     // The trap is delivered.
     pub fn take_trap(self, t: Exception) -> Step
@@ -30,17 +43,11 @@ impl Hart {
         }
     }
 
-    // A cause that the model raises, 2 or 22: value 0, flag clear.
+    // A cause that the model raises, 2 or 22.
     fn raise(self, cause: u64) -> Step
         ensures { λ r. ⌜ r ≡ raised self cause ⌝ }
     {
-        self.take_trap(Exception {
-            cause,
-            value: 0,
-            second: 0,
-            word: 0,
-            flag: false,
-        })
+        self.take_trap(cause_only(cause))
     }
 
     // Refusal 2, then the call's own (0: none), then what the verdict gives, else the step that is done.

@@ -1,17 +1,17 @@
 // Trap requests, environment calls and breakpoints.
 ghost use mathlib.Core.Path.{_≡_};
-ghost use Rattle.hart.specs.Trap.{trap, ecall, ebreak};
+ghost use Rattle.hart.specs.Trap.{trapping, trap, ecall, ebreak};
+use crate::event;
 use crate::event::Step;
 use crate::state::Hart;
 use exceptions::Exception;
 use privilege::mode::Verdict;
 
 impl Hart {
-    // A trap request.
-    pub fn trap(self, t: Exception) -> Step
-        ensures { λ r. ⌜ r ≡ trap self t ⌝ }
+    // The trap is taken, unless refused.
+    fn trapping(self, own: u64, t: Exception) -> Step
+        ensures { λ r. ⌜ r ≡ trapping self own t ⌝ }
     {
-        let own = bits::select(traps::impossible(self.context(), t), 4, 0);
         self.settle(
             own,
             Verdict {
@@ -22,40 +22,26 @@ impl Hart {
         )
     }
 
+    // A trap request.
+    pub fn trap(self, t: Exception) -> Step
+        ensures { λ r. ⌜ r ≡ trap self t ⌝ }
+    {
+        let own = bits::select(traps::impossible(self.context(), t), 4, 0);
+        self.trapping(own, t)
+    }
+
     // ECALL.
     pub fn ecall(self) -> Step
         ensures { λ r. ⌜ r ≡ ecall self ⌝ }
     {
         let cause = traps::call_cause(self.context());
-        let t = Exception {
-            cause,
-            value: 0,
-            second: 0,
-            word: 0,
-            flag: false,
-        };
-        self.settle(
-            0,
-            Verdict {
-                gives2: false,
-                gives22: false,
-            },
-            self.take_trap(t),
-        )
+        self.trapping(0, event::cause_only(cause))
     }
 
     // EBREAK.
     pub fn ebreak(self) -> Step
         ensures { λ r. ⌜ r ≡ ebreak self ⌝ }
     {
-        let t = traps::breakpoint(self.v, self.pc);
-        self.settle(
-            0,
-            Verdict {
-                gives2: false,
-                gives22: false,
-            },
-            self.take_trap(t),
-        )
+        self.trapping(0, traps::breakpoint(self.v, self.pc))
     }
 }

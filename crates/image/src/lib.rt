@@ -14,10 +14,10 @@ pub enum Entry {
 pub fn refused(base: u64, len: u64) -> bool
     ensures { λ r. ⌜ r ≡ unfit base len ⌝ }
 {
-    if 67108864 < len {
+    if 0x400_0000 < len {
         return true;
     }
-    (base % 4096 != 0) | (len % 4096 != 0) | (72057594037927936 - len < base)
+    (base % 0x1000 != 0) | (len % 0x1000 != 0) | (0x100_0000_0000_0000 - len < base)
 }
 
 // Whether the whole access lies in the image. No sum is made, so none wraps.
@@ -45,13 +45,13 @@ fn load(s: &[u8], at: usize) -> u64
     ensures { λ r. ⌜ r ≡ eight (now (s .entry)) at ⌝ }
 {
     wide(s[at])
-        + wide(s[at + 1]) * 256
-        + wide(s[at + 2]) * 65536
-        + wide(s[at + 3]) * 16777216
-        + wide(s[at + 4]) * 4294967296
-        + wide(s[at + 5]) * 1099511627776
-        + wide(s[at + 6]) * 281474976710656
-        + wide(s[at + 7]) * 72057594037927936
+        + wide(s[at + 1]) * 0x100
+        + wide(s[at + 2]) * 0x1_0000
+        + wide(s[at + 3]) * 0x100_0000
+        + wide(s[at + 4]) * 0x1_0000_0000
+        + wide(s[at + 5]) * 0x100_0000_0000
+        + wide(s[at + 6]) * 0x1_0000_0000_0000
+        + wide(s[at + 7]) * 0x100_0000_0000_0000
 }
 
 // The entry at a machine address.

@@ -76,7 +76,7 @@ VTSR = bit 22
 abbrev pub VSXL : Field
 VSXL = span 33 32
 
--- satp, vsatp (MODE) and hgatp (all three)
+-- satp, vsatp (MODE, PPN) and hgatp (all three)
 abbrev pub MODE : Field
 MODE = span 63 60
 

@@ -48,6 +48,10 @@ stored r old w = copy (r .mask) (taken (r .restriction) old w) old
 unfoldable pub legal : Rule → ℕ → Bool
 legal r x = allowed (r .restriction) x && eqb (bitAnd x (top - r .mask)) (r .fixed)
 
+-- a register without a restriction
+abbrev pub stores : ℕ → ℕ → Rule
+stores m f = record { mask = m; fixed = f; restriction = free }
+
 -- mstatus: its fields; writing 2 keeps the old MPP; UXL and SXL read 2
 abbrev pub stores-mstatus : Rule
 stores-mstatus = record {
@@ -55,10 +59,6 @@ stores-mstatus = record {
   fixed = 0 after (UXL := 2 ∷ SXL := 2 ∷ []);
   restriction = keeps MPP (0 ∷ 1 ∷ 3 ∷ []);
 }
-
--- a register without a restriction
-abbrev pub stores : ℕ → ℕ → Rule
-stores m f = record { mask = m; fixed = f; restriction = free }
 
 -- sstatus is mstatus's SIE, SPIE, SPP, SUM, MXR and UXL; vsstatus holds its own of these
 abbrev pub stores-status : Rule

@@ -51,7 +51,7 @@ pub const VTSR: Field = Field { low: 22, width: 1 };
 
 pub const VSXL: Field = Field { low: 32, width: 2 };
 
-// satp and vsatp (MODE), hgatp (all three).
+// satp and vsatp (MODE, PPN), hgatp (all three).
 pub const MODE: Field = Field { low: 60, width: 4 };
 
 pub const VMID: Field = Field { low: 44, width: 14 };

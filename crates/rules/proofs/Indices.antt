@@ -8,14 +8,14 @@ use borrow.Author.Tests.{eq-eqb, ne-eqb}
 use Rattle.bits.specs.Field.{get}
 use Rattle.bits.proofs.Fields.{get-lt}
 use Rattle.rules.specs.Entry.{offset}
-use Rattle.rules.specs.Address.{Stage, first, second, indexWidth, index, slots}
+use Rattle.rules.specs.Address.{Stage, first, second, indexWidth, index, indexBits}
 
 -- the second stage's root has eleven bits of index
 pub root-width : (levels : ℕ) → 0 < levels → indexWidth second levels (levels - 1) ≡ 11
 root-width levels h = rw (eq-eqb (suc (levels - 1)) levels (omega arith))
 
 -- below the root both stages have nine
-pub below-root : (s : Stage) (levels level a : ℕ) → suc level < levels → index s levels level a ≡ get (slots 9 level) a
+pub below-root : (s : Stage) (levels level a : ℕ) → suc level < levels → index s levels level a ≡ get (indexBits 9 level) a
 unfolding index
 below-root first levels level a h = refl
 below-root second levels level a h = rw (ne-eqb (suc level) levels (λ e. omega arith))

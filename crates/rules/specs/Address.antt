@@ -33,8 +33,8 @@ indexWidth first levels level = 9
 indexWidth second levels level = pick (eqb (suc level) levels) 11 9
 
 -- the bits of an address from 12 + 9 times the level up
-abbrev pub slots : ℕ → ℕ → Field
-slots width level = record { low = 12 + 9 * level; width = width }
+abbrev pub indexBits : ℕ → ℕ → Field
+indexBits width level = record { low = 12 + 9 * level; width = width }
 
 unfoldable pub index : Stage → ℕ → ℕ → ℕ → ℕ
-index s levels level = get (slots (indexWidth s levels level) level)
+index s levels level = get (indexBits (indexWidth s levels level) level)

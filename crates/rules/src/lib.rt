@@ -4,7 +4,7 @@ ghost use Prim.Native.Nat.{_+_, _-_, _*_, _<_, _≤_};
 ghost use Rattle.bits.specs.Field.{get};
 ghost use Rattle.rules.specs.Kind.{by};
 ghost use Rattle.rules.specs.Entry.{pointer, reached, granted, faulty, target, offset, judged};
-ghost use Rattle.rules.specs.Address.{Stage, wellFormed, slots, index};
+ghost use Rattle.rules.specs.Address.{Stage, wellFormed, indexBits, index};
 ghost use Rattle.rules.specs.Faults.{raised, misalignment, accessFault, pageFault, guestPageFault, entryFault, firstNeed, secondNeed, entryNeed};
 use bits::Field;
 use bits::has;
@@ -174,7 +174,7 @@ impl Need {
 // The index at a level: nine bits of an address.
 pub fn index(level: u64, address: u64) -> u64
     requires { ⌜ level < 5 ⌝ }
-    ensures { λ r. ⌜ (r ≡ get (slots 9 level) address) × (r < 512) ⌝ }
+    ensures { λ r. ⌜ (r ≡ get (indexBits 9 level) address) × (r < 512) ⌝ }
 {
     let nine = Field {
         low: 12 + 9 * level,
@@ -205,11 +205,7 @@ pub fn is_extended(levels: u64, address: u64) -> bool
         low: low,
         width: 64 - low,
     };
-    let all = Field {
-        low: low,
-        width: 64 - low,
-    };
-    high.get(address) == select(has(low - 1, address), all.get(18446744073709551615), 0)
+    high.get(address) == select(has(low - 1, address), high.get(0xFFFF_FFFF_FFFF_FFFF), 0)
 }
 
 // The second stage's test of an address's high bits.
@@ -273,7 +269,7 @@ impl Access {
             cause: 21,
             value: self.address,
             second: guest.0 / 4,
-            word: 12288,
+            word: 0x3000,
             flag: self.v,
         }
     }

@@ -19,8 +19,8 @@ use Rattle.rules.specs.Faults.{misalignment, secondNeed, entryNeed}
 use Rattle.walk.specs.declared.Read.{Read}
 use Rattle.walk.specs.Tree.{Walk, Ran, run}
 use Rattle.walk.specs.Stages.{Outcome, yields, faults, look, walkOf}
-use Rattle.walk.specs.Listed.{places, unused, Agree}
-use Rattle.walk.specs.Through.{EndsThrough}
+use Rattle.walk.specs.Listed.{places, unused}
+use Rattle.walk.specs.Through.{Agree, EndsThrough}
 use Rattle.walk.proofs.Bounds.{at-most}
 use Rattle.walk.proofs.Images.{same-walk}
 use Rattle.walk.proofs.Guarded.{guest-entry, answer-page}

@@ -33,7 +33,7 @@ wrongValue t =
     isCall (t .cause) && not (eqb (t .value) 0)
     || not (isGuestPage (t .cause)) && not (eqb (t .second) 0 && eqb (t .word) 0)
 
--- flag set for 2, 8-11, 22
+-- the causes whose flag is never set: 2, 8-11, 22
 abbrev pub neverFlagged : ℕ → Bool
 neverFlagged cause = eqb cause 2 || (isCall cause || eqb cause 22)
 

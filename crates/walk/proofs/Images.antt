@@ -12,7 +12,7 @@ use Rattle.image.specs.Image.{within, eight, entry}
 use Rattle.rules.specs.declared.Machine.{Machine}
 use Rattle.walk.specs.Tree.{Walk, done, ask, item, listed, found, run}
 use Rattle.walk.specs.Stages.{look}
-use Rattle.walk.specs.Listed.{Agree}
+use Rattle.walk.specs.Through.{Agree}
 
 -- two images lack the same entries
 abbrev SameGaps : (Machine → Entry) → (Machine → Entry) → Type 0

@@ -8,7 +8,7 @@ use Rattle.bits.specs.Field.{pick, get}
 use Rattle.rules.specs.declared.Access.{Access}
 use Rattle.rules.specs.declared.Guest.{Guest}
 use Rattle.rules.specs.declared.Machine.{Machine}
-use Rattle.rules.specs.Address.{wellFormed, first, second, slots, index}
+use Rattle.rules.specs.Address.{wellFormed, first, second, indexBits, index}
 use Rattle.rules.specs.Faults.{pageFault, entryFault, entryNeed}
 use Rattle.rules.proofs.Indices.{below-root}
 use Rattle.walk.specs.declared.Next.the-variants.{Look}
@@ -73,13 +73,13 @@ module _ (base len : ℕ) (a : Access) where
   entered-last g = refl
 
   -- where a pointer leads, its index known
-  pub second-pointer : (left level table i : ℕ) (g : Guest) → 0 < level → level < a .second .levels → i ≡ get (slots 9 (level - 1)) (g .0)
+  pub second-pointer : (left level table i : ℕ) (g : Guest) → 0 < level → level < a .second .levels → i ≡ get (indexBits 9 (level - 1)) (g .0)
       → rest base len a (Look (place (level - 1) left (machine (table + 8 * i)) g)) ≡ below (second-at a left g) level table then arrived base len a left
   second-pointer left level table i g h k e =
       rw (e, ← below-root second (a .second .levels) (level - 1) (g .0) (omega arith), below-at (second-at a left g) level table h)
       (sym (second-down left (level - 1) table g))
 
-  pub first-pointer : (level table i : ℕ) → 0 < level → i ≡ get (slots 9 (level - 1)) (a .address)
+  pub first-pointer : (level table i : ℕ) → 0 < level → i ≡ get (indexBits 9 (level - 1)) (a .address)
       → entered base len a level (guest (table + 8 * i)) ≡ below (first-of a) level table then final base len a
   unfolding index
   first-pointer level table i h e = rw (e, below-at (first-of a) level table h) (sym (first-down level table h))
@@ -109,7 +109,7 @@ module _ (base len : ℕ) (a : Access) where
   unfolding walkOf bind
   start-bad h w = rw (begin-at (first-of a) (a .first .levels) h, w)
 
-  pub start-on : (i : ℕ) → 0 < a .first .levels → wellFormed first (a .first .levels) (a .address) ≡ true → i ≡ get (slots 9 (a .first .levels - 1)) (a .address)
+  pub start-on : (i : ℕ) → 0 < a .first .levels → wellFormed first (a .first .levels) (a .address) ≡ true → i ≡ get (indexBits 9 (a .first .levels - 1)) (a .address)
       → entered base len a (a .first .levels) (guest (a .first .ppn * 4096 + 8 * i)) ≡ walkOf base len a
   unfolding walkOf index
   start-on i h w e = rw (e, begin-at (first-of a) (a .first .levels) h, w) (sym (first-down (a .first .levels) (a .first .ppn * 4096) h))

@@ -1,9 +1,7 @@
 -- What a walk hands over: the end, and the list of reads in an array.
-use mathlib.Core.Path.{_≡_}
-use mathlib.Core.List.{List, [], _∷_, _++_}
+use mathlib.Core.List.{List, _++_}
 use Prim.Native.Nat.{ℕ, _-_}
 use lib.ListN.{length, replicate}
-use Rattle.image.specs.declared.Entry.{Entry}
 use Rattle.rules.specs.declared.Machine.{Machine}
 use Rattle.walk.specs.declared.Read.{Read}
 use Rattle.walk.specs.declared.Reached.{Reached}
@@ -30,8 +28,3 @@ reached (faults f) = Failed f
 -- "The list of reads holds fifteen places ... and their count."
 abbrev pub walked : Ran (Outcome Machine) → Walked
 walked r = record { reads = padded places (r .reads); count = length (r .reads); reached = reached (r .end) }
-
--- two images agree on the entries of a list
-abbrev pub Agree : (Machine → Entry) → (Machine → Entry) → List Read → Type 0
-Agree f g [] = Unit {0}
-Agree f g (x ∷ xs) = (g (x .address) ≡ f (x .address)) × Agree f g xs

@@ -1,9 +1,10 @@
--- A second-stage walk in the list of reads, and what it let through: the words of demand 3.
+-- The words of demand 3: images that agree on a list; a second-stage walk in the list, and what it let through.
 use mathlib.Core.Path.{_≡_}
 use mathlib.Core.Bool.{true, false}
 use mathlib.Core.List.{List, [], _∷_, _++_}
 use Prim.Native.Nat.{ℕ, suc, _+_, _-_, _*_, _^_, _≤_}
 use Rattle.bits.specs.Field.{has}
+use Rattle.image.specs.declared.Entry.{Entry}
 use Rattle.rules.specs.declared.Machine.{Machine}
 use Rattle.rules.specs.declared.Need.{Need}
 use Rattle.rules.specs.declared.Root.{Root}
@@ -12,6 +13,11 @@ use Rattle.rules.specs.Entry.{U, pointer, granted, faulty, target}
 use Rattle.walk.specs.declared.Read.{Read}
 use Rattle.walk.specs.Tree.{item}
 use Rattle.walk.specs.Stages.{machine}
+
+-- two images agree on the entries of a list
+abbrev pub Agree : (Machine → Entry) → (Machine → Entry) → List Read → Type 0
+Agree f g [] = Unit {0}
+Agree f g (x ∷ xs) = (g (x .address) ≡ f (x .address)) × Agree f g xs
 
 -- the item of a second-stage entry for a guest address: level, table and value
 abbrev pub secondItem : Root → ℕ → ℕ → ℕ → ℕ → Read
@@ -29,7 +35,7 @@ pub record OnPage (leaf : Read) (m : Machine) (size : ℕ) : Type 0 where
   pub from : target (leaf .value) ≤ m .0
   pub to : m .0 + size ≤ target (leaf .value) + 2 ^ (12 + 9 * leaf .level)
 
--- A second-stage walk, from its root, let size bytes at a machine address through: "no fault rule held at that leaf; so U=1
+-- A second-stage walk for some guest address, from its root, let size bytes at a machine address through: "no fault rule held at that leaf; so U=1
 -- and the right needed is there"; the bytes lie on the leaf's page.
 pub record LetThrough (root : Root) (need : Need) (walk : List Read) (m : Machine) (size : ℕ) : Type 0 where
   pub guest : ℕ

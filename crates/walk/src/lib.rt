@@ -18,7 +18,7 @@ use rules::Machine;
 use rules::Need;
 use rules::Verdict;
 
-// One entry of the list. stage: 1 first, 2 second
+// One entry of the list; its stage is 1 for the first, 2 for the second.
 pub struct Read {
     pub stage: u64,
     pub level: u64,
@@ -38,8 +38,8 @@ pub struct Walked {
     pub reached: Reached,
 }
 
-// The entry that is looked at next: its stage, level and address. The second stage translates a guest address, for the access
-// itself where the first stage has no level left.
+// The entry that is looked at next: its stage, level and address. A second-stage entry also has what it is looked at for: the
+// guest address that is translated, and how many first-stage levels are left, 0 where it is the access's own.
 pub struct Place {
     pub second: bool,
     pub level: u64,
@@ -116,7 +116,14 @@ fn enter(base: u64, len: u64, a: Access, left: u64, guest: Guest) -> Next
         return arrive(base, len, a, left, guest, Reached::At(Machine(address)));
     }
     if !rules::is_small(levels, address) {
-        return Next::Ended(Reached::Failed(fault(a, left, guest)));
+        return arrive(
+            base,
+            len,
+            a,
+            left,
+            guest,
+            Reached::Failed(fault(a, left, guest)),
+        );
     }
     Next::Look(Place {
         second: true,
@@ -137,7 +144,14 @@ fn second_step(base: u64, len: u64, a: Access, p: Place, e: u64) -> Next
     let guest = p.guest;
     let address = guest.0;
     match need(a, left).judge(level, address, e) {
-        Verdict::Bad => Next::Ended(Reached::Failed(fault(a, left, guest))),
+        Verdict::Bad => arrive(
+            base,
+            len,
+            a,
+            left,
+            guest,
+            Reached::Failed(fault(a, left, guest)),
+        ),
         Verdict::Leaf(x) => arrive(base, len, a, left, guest, Reached::At(Machine(x))),
         Verdict::Pointer(table) => Next::Look(Place {
             second: true,
@@ -230,6 +244,7 @@ pub fn walk(base: u64, bytes: &[u8], a: Access) -> Walked
             Next::Look(p) => {
                 let at = p.at;
                 let address = at.0;
+                // an entry outside the image
                 let Entry::Value(e) = fetch(base, bytes, address) else {
                     return Walked {
                         reads: reads,

@@ -1,6 +1,6 @@
 use native.Mathlib.Omega.{arith}
 use Rattle.bits.proofs.Fields.{get-lt}
-use Rattle.rules.specs.Address.{slots}
+use Rattle.rules.specs.Address.{indexBits}
 use borrow.Author.Needs.{needs}
 use Rattle.rules.proofs.index.Statement.{statement}
 use Rattle.rules.proofs.index.Tie as tie
@@ -15,7 +15,7 @@ get-requires : tie.Need-get-requires
 get-requires c κs = search needs
 
 returns : tie.Need-returns
-returns c = (c .get .ensures, omega (arith, c .get .ensures, get-lt (slots 9 (c .before .args .level)) (c .before .args .address)))
+returns c = (c .get .ensures, omega (arith, c .get .ensures, get-lt (indexBits 9 (c .before .args .level)) (c .before .args .address)))
 
 pub index-spec : {M : Type 1} → statement M
 index-spec = tie.close (tie.spec mul-t4 add-t5 get-requires returns)

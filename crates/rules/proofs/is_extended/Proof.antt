@@ -12,9 +12,6 @@ add-low c = search needs
 sub-result : tie.Need-sub-result
 sub-result c = search needs
 
-sub-result-2 : tie.Need-sub-result-2
-sub-result-2 c = search needs
-
 get-requires : tie.Need-get-requires
 get-requires c κs = search needs
 
@@ -41,7 +38,6 @@ is-extended-spec =
     mul-low
     add-low
     sub-result
-    sub-result-2
     get-requires
     sub-has
     has-requires

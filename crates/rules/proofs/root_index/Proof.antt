@@ -1,7 +1,7 @@
 use Prim.Native.Nat.{_-_}
 use native.Mathlib.Omega.{arith}
 use Rattle.bits.proofs.Fields.{get-lt}
-use Rattle.rules.specs.Address.{slots, index}
+use Rattle.rules.specs.Address.{indexBits, index}
 use Rattle.rules.proofs.Indices.{root-width}
 use borrow.Author.Needs.{needs}
 use Rattle.rules.proofs.root_index.Statement.{statement}
@@ -24,7 +24,7 @@ unfolding index
 returns c =
     let a = c .before .args in
     let e = root-width (a .levels) (c .before .pre .0) in
-    (rw e (c .get .ensures), omega (arith, c .get .ensures, get-lt (slots 11 (a .levels - 1)) (a .address)))
+    (rw e (c .get .ensures), omega (arith, c .get .ensures, get-lt (indexBits 11 (a .levels - 1)) (a .address)))
 
 pub root-index-spec : {M : Type 1} → statement M
 root-index-spec = tie.close (tie.spec sub-t4 mul-t5 add-t6 get-requires returns)

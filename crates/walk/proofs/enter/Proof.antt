@@ -1,11 +1,7 @@
-use mathlib.Core.Path.{sym, ap, _∙_}
+use mathlib.Core.Path.{sym, _∙_}
 use native.Mathlib.Omega.{arith}
 use Prim.Native.Nat.{_<_}
 use borrow.Author.Tests.{not-true, not-false}
-use Rattle.exceptions.specs.declared.Exception.{Exception}
-use Rattle.walk.specs.Tree.{done}
-use Rattle.walk.specs.Stages.{faults}
-use Rattle.walk.specs.Place.{rest}
 use Rattle.walk.proofs.Places.{entered-off, entered-bad, entered-on}
 use borrow.Author.Needs.{needs}
 use Rattle.walk.proofs.enter.Statement.{statement}
@@ -25,12 +21,14 @@ is-small-requires c κs = search needs
 fault-requires : tie.Need-fault-requires
 fault-requires c κs = search needs
 
+arrive-requires-2 : tie.Need-arrive-requires-2
+arrive-requires-2 c κs = search needs
+
 returns-2 : tie.Need-returns-2
-unfolding rest
 returns-2 c =
-    let a = c .before .before .before .before .before .args in
-    let w = sym (c .before .before .is-small .ensures) ∙ not-true _ (c .before .if2 .taken) in
-    record { same = ap (λ (f : Exception). done (faults f)) (c .fault .ensures) ∙ entered-bad (a .base) (a .len) (a .a) (a .left) (a .guest) (omega (arith, c .before .before .before .if1 .left)) w; sound = tt }
+    let a = c .before .before .before .before .before .before .args in
+    let w = sym (c .before .before .before .is-small .ensures) ∙ not-true _ (c .before .before .if2 .taken) in
+    rw (← entered-bad (a .base) (a .len) (a .a) (a .left) (a .guest) (omega (arith, c .before .before .before .before .if1 .left)) w, ← c .before .fault .ensures) (c .arrive2 .ensures)
 
 sub-t15 : tie.Need-sub-t15
 sub-t15 c = search needs
@@ -65,6 +63,7 @@ enter-spec =
     returns
     is-small-requires
     fault-requires
+    arrive-requires-2
     returns-2
     sub-t15
     mul-t16

@@ -1,13 +1,12 @@
 use mathlib.Core.Path.{_≡_, sym, ap, _∙_}
 use native.Mathlib.Omega.{arith}
 use Rattle.rules.specs.declared.Need.{Need}
-use Rattle.exceptions.specs.declared.Exception.{Exception}
 use Rattle.rules.specs.declared.Verdict.{Verdict}
 use Rattle.rules.specs.Entry.{judged}
 use Rattle.rules.proofs.Verdicts.{pointer-bounds}
-use Rattle.walk.specs.Tree.{done, bind}
-use Rattle.walk.specs.Stages.{faults, follow}
-use Rattle.walk.specs.Place.{needAt, rest}
+use Rattle.walk.specs.Tree.{bind}
+use Rattle.walk.specs.Stages.{follow}
+use Rattle.walk.specs.Place.{needAt}
 use Rattle.walk.proofs.Places.{second-pointer}
 use borrow.Author.Needs.{needs}
 use Rattle.walk.proofs.second_step.Statement.{statement}
@@ -31,11 +30,14 @@ enum-told c = search needs
 fault-requires : tie.Need-fault-requires
 fault-requires c κs = search needs
 
+arrive-requires : tie.Need-arrive-requires
+arrive-requires c κs = search needs
+
 enum-known-x : tie.Need-enum-known-x
 enum-known-x c = search needs
 
-arrive-requires : tie.Need-arrive-requires
-arrive-requires c κs = search needs
+arrive-requires-2 : tie.Need-arrive-requires-2
+arrive-requires-2 c κs = search needs
 
 enum-known-table : tie.Need-enum-known-table
 enum-known-table c = search needs
@@ -56,12 +58,12 @@ add-t23 : tie.Need-add-t23
 add-t23 c = omega (arith, pointer-bounds _ _ _ _ _ (verdict (c .before .before .before .before) _ (c .before .before .table .given .1)) .1, c .index .ensures .1)
 
 returns : tie.Need-returns
-unfolding follow bind rest
-returns c = rw (verdict (c .before .before .before) _ (c .before .enum-told .given .1)) (record { same = ap (λ (f : Exception). done (faults f)) (c .fault .ensures); sound = tt })
+unfolding follow bind
+returns c = rw (verdict (c .before .before .before .before) _ (c .before .before .enum-told .given .1), ← c .before .fault .ensures) (c .arrive .ensures)
 
 returns-2 : tie.Need-returns-2
 unfolding follow bind
-returns-2 c = rw (verdict (c .before .before .before .before) _ (c .before .before .x .given .1)) (c .arrive .ensures)
+returns-2 c = rw (verdict (c .before .before .before .before) _ (c .before .before .x .given .1)) (c .arrive2 .ensures)
 
 returns-3 : tie.Need-returns-3
 unfolding follow
@@ -83,8 +85,9 @@ second-step-spec =
     judge-requires
     enum-told
     fault-requires
-    enum-known-x
     arrive-requires
+    enum-known-x
+    arrive-requires-2
     enum-known-table
     sub-t19
     sub-index

@@ -12,23 +12,13 @@ impossible-requires c κs = search needs
 select-requires : tie.Need-select-requires
 select-requires c κs = search needs
 
-take-trap-requires : tie.Need-take-trap-requires
-take-trap-requires c κs = search needs
-
-settle-requires : tie.Need-settle-requires
-settle-requires c κs = search needs
+trapping-requires : tie.Need-trapping-requires
+trapping-requires c κs = search needs
 
 returns : tie.Need-returns
 unfolding trap
-returns c = rw (c .settle .ensures, c .before .take-trap .ensures, c .before .before .select .ensures, c .before .before .before .impossible .ensures, c .before .before .before .before .context .ensures)
+returns c = rw (c .trapping .ensures, c .before .select .ensures, c .before .before .impossible .ensures, c .before .before .before .context .ensures)
 
 pub trap-spec : {M : Type 1} → statement M
 trap-spec =
-    tie.close
-    (tie.spec
-    context-requires
-    impossible-requires
-    select-requires
-    take-trap-requires
-    settle-requires
-    returns)
+    tie.close (tie.spec context-requires impossible-requires select-requires trapping-requires returns)
