@@ -2,32 +2,22 @@
 ghost use mathlib.Core.Path.{_≡_};
 ghost use Rattle.hart.specs.Access.{read, write, set, clear};
 ghost use Rattle.hart.specs.declared.state.Hart.{Hart};
-ghost use Rattle.exports.specs.Calls.{accessCode, accessLeft};
+ghost use Rattle.exports.specs.Calls.{onAccess};
 
 // Reads the register with a number.
 #[no_mangle]
 pub extern "C" fn balcumentri_read(h: &[u64], number: u64, out: &mut [u64]) -> u64
-    ensures { λ r. ⌜ r ≡ accessCode (now (h .entry)) (now (out .entry)) ⌝ }
-    ensures { λ _. ⌜ now (out .exit) ≡ accessLeft (λ (x : Hart). read x number) (now (h .entry)) (now (out .entry)) ⌝ }
+    ensures { λ r. ⌜ (r, now (out .exit)) ≡ onAccess (λ (x : Hart). read x number) (now (h .entry)) (now (out .entry)) ⌝ }
 {
-    if layout::misfit(h.len(), out.len(), 35) {
-        return 1;
-    }
-    layout::put_access(layout::hart_of(h).read(number), &mut *out);
-    0
+    layout::put_access(layout::hart_of(h).read(number), h.len(), &mut *out)
 }
 
 // Writes w to it.
 #[no_mangle]
 pub extern "C" fn balcumentri_write(h: &[u64], number: u64, w: u64, out: &mut [u64]) -> u64
-    ensures { λ r. ⌜ r ≡ accessCode (now (h .entry)) (now (out .entry)) ⌝ }
-    ensures { λ _. ⌜ now (out .exit) ≡ accessLeft (λ (x : Hart). write x number w) (now (h .entry)) (now (out .entry)) ⌝ }
+    ensures { λ r. ⌜ (r, now (out .exit)) ≡ onAccess (λ (x : Hart). write x number w) (now (h .entry)) (now (out .entry)) ⌝ }
 {
-    if layout::misfit(h.len(), out.len(), 35) {
-        return 1;
-    }
-    layout::put_access(layout::hart_of(h).write(number, w), &mut *out);
-    0
+    layout::put_access(layout::hart_of(h).write(number, w), h.len(), &mut *out)
 }
 
 // Sets the bits of w in it, if the access writes.
@@ -39,14 +29,13 @@ pub extern "C" fn balcumentri_set(
     writes: bool,
     out: &mut [u64],
 ) -> u64
-    ensures { λ r. ⌜ r ≡ accessCode (now (h .entry)) (now (out .entry)) ⌝ }
-    ensures { λ _. ⌜ now (out .exit) ≡ accessLeft (λ (x : Hart). set x number w writes) (now (h .entry)) (now (out .entry)) ⌝ }
+    ensures { λ r. ⌜ (r, now (out .exit)) ≡ onAccess (λ (x : Hart). set x number w writes) (now (h .entry)) (now (out .entry)) ⌝ }
 {
-    if layout::misfit(h.len(), out.len(), 35) {
-        return 1;
-    }
-    layout::put_access(layout::hart_of(h).set(number, w, writes), &mut *out);
-    0
+    layout::put_access(
+        layout::hart_of(h).set(number, w, writes),
+        h.len(),
+        &mut *out,
+    )
 }
 
 // Clears the bits of w in it, if the access writes.
@@ -58,12 +47,11 @@ pub extern "C" fn balcumentri_clear(
     writes: bool,
     out: &mut [u64],
 ) -> u64
-    ensures { λ r. ⌜ r ≡ accessCode (now (h .entry)) (now (out .entry)) ⌝ }
-    ensures { λ _. ⌜ now (out .exit) ≡ accessLeft (λ (x : Hart). clear x number w writes) (now (h .entry)) (now (out .entry)) ⌝ }
+    ensures { λ r. ⌜ (r, now (out .exit)) ≡ onAccess (λ (x : Hart). clear x number w writes) (now (h .entry)) (now (out .entry)) ⌝ }
 {
-    if layout::misfit(h.len(), out.len(), 35) {
-        return 1;
-    }
-    layout::put_access(layout::hart_of(h).clear(number, w, writes), &mut *out);
-    0
+    layout::put_access(
+        layout::hart_of(h).clear(number, w, writes),
+        h.len(),
+        &mut *out,
+    )
 }

@@ -4,7 +4,7 @@ ghost use Rattle.hart.specs.Trap.{trap, ecall, ebreak};
 ghost use Rattle.hart.specs.Return.{mret, sret};
 ghost use Rattle.hart.specs.Wait.{wfi, sfenceVma, hfenceVvma, hfenceGvma};
 ghost use Rattle.hart.specs.declared.state.Hart.{Hart};
-ghost use Rattle.exports.specs.Calls.{stepCode, stepLeft};
+ghost use Rattle.exports.specs.Calls.{onStep};
 use traps::Trap;
 
 // A trap request.
@@ -18,12 +18,8 @@ pub extern "C" fn balcumentri_trap(
     flag: bool,
     out: &mut [u64],
 ) -> u64
-    ensures { λ r. ⌜ r ≡ stepCode (now (h .entry)) (now (out .entry)) ⌝ }
-    ensures { λ _. ⌜ now (out .exit) ≡ stepLeft (λ (x : Hart). trap x (record { cause = cause; value = value; second = second; word = word; flag = flag })) (now (h .entry)) (now (out .entry)) ⌝ }
+    ensures { λ r. ⌜ (r, now (out .exit)) ≡ onStep (λ (x : Hart). trap x (record { cause = cause; value = value; second = second; word = word; flag = flag })) (now (h .entry)) (now (out .entry)) ⌝ }
 {
-    if layout::misfit(h.len(), out.len(), 34) {
-        return 1;
-    }
     let t = Trap {
         cause,
         value,
@@ -31,110 +27,69 @@ pub extern "C" fn balcumentri_trap(
         word,
         flag,
     };
-    layout::put_step(layout::hart_of(h).trap(t), &mut *out);
-    0
+    layout::put_step(layout::hart_of(h).trap(t), h.len(), &mut *out)
 }
 
 // ECALL.
 #[no_mangle]
 pub extern "C" fn balcumentri_ecall(h: &[u64], out: &mut [u64]) -> u64
-    ensures { λ r. ⌜ r ≡ stepCode (now (h .entry)) (now (out .entry)) ⌝ }
-    ensures { λ _. ⌜ now (out .exit) ≡ stepLeft ecall (now (h .entry)) (now (out .entry)) ⌝ }
+    ensures { λ r. ⌜ (r, now (out .exit)) ≡ onStep ecall (now (h .entry)) (now (out .entry)) ⌝ }
 {
-    if layout::misfit(h.len(), out.len(), 34) {
-        return 1;
-    }
-    layout::put_step(layout::hart_of(h).ecall(), &mut *out);
-    0
+    layout::put_step(layout::hart_of(h).ecall(), h.len(), &mut *out)
 }
 
 // EBREAK.
 #[no_mangle]
 pub extern "C" fn balcumentri_ebreak(h: &[u64], out: &mut [u64]) -> u64
-    ensures { λ r. ⌜ r ≡ stepCode (now (h .entry)) (now (out .entry)) ⌝ }
-    ensures { λ _. ⌜ now (out .exit) ≡ stepLeft ebreak (now (h .entry)) (now (out .entry)) ⌝ }
+    ensures { λ r. ⌜ (r, now (out .exit)) ≡ onStep ebreak (now (h .entry)) (now (out .entry)) ⌝ }
 {
-    if layout::misfit(h.len(), out.len(), 34) {
-        return 1;
-    }
-    layout::put_step(layout::hart_of(h).ebreak(), &mut *out);
-    0
+    layout::put_step(layout::hart_of(h).ebreak(), h.len(), &mut *out)
 }
 
 // MRET.
 #[no_mangle]
 pub extern "C" fn balcumentri_mret(h: &[u64], out: &mut [u64]) -> u64
-    ensures { λ r. ⌜ r ≡ stepCode (now (h .entry)) (now (out .entry)) ⌝ }
-    ensures { λ _. ⌜ now (out .exit) ≡ stepLeft mret (now (h .entry)) (now (out .entry)) ⌝ }
+    ensures { λ r. ⌜ (r, now (out .exit)) ≡ onStep mret (now (h .entry)) (now (out .entry)) ⌝ }
 {
-    if layout::misfit(h.len(), out.len(), 34) {
-        return 1;
-    }
-    layout::put_step(layout::hart_of(h).mret(), &mut *out);
-    0
+    layout::put_step(layout::hart_of(h).mret(), h.len(), &mut *out)
 }
 
 // SRET.
 #[no_mangle]
 pub extern "C" fn balcumentri_sret(h: &[u64], out: &mut [u64]) -> u64
-    ensures { λ r. ⌜ r ≡ stepCode (now (h .entry)) (now (out .entry)) ⌝ }
-    ensures { λ _. ⌜ now (out .exit) ≡ stepLeft sret (now (h .entry)) (now (out .entry)) ⌝ }
+    ensures { λ r. ⌜ (r, now (out .exit)) ≡ onStep sret (now (h .entry)) (now (out .entry)) ⌝ }
 {
-    if layout::misfit(h.len(), out.len(), 34) {
-        return 1;
-    }
-    layout::put_step(layout::hart_of(h).sret(), &mut *out);
-    0
+    layout::put_step(layout::hart_of(h).sret(), h.len(), &mut *out)
 }
 
 // WFI.
 #[no_mangle]
 pub extern "C" fn balcumentri_wfi(h: &[u64], out: &mut [u64]) -> u64
-    ensures { λ r. ⌜ r ≡ stepCode (now (h .entry)) (now (out .entry)) ⌝ }
-    ensures { λ _. ⌜ now (out .exit) ≡ stepLeft wfi (now (h .entry)) (now (out .entry)) ⌝ }
+    ensures { λ r. ⌜ (r, now (out .exit)) ≡ onStep wfi (now (h .entry)) (now (out .entry)) ⌝ }
 {
-    if layout::misfit(h.len(), out.len(), 34) {
-        return 1;
-    }
-    layout::put_step(layout::hart_of(h).wfi(), &mut *out);
-    0
+    layout::put_step(layout::hart_of(h).wfi(), h.len(), &mut *out)
 }
 
 // SFENCE.VMA.
 #[no_mangle]
 pub extern "C" fn balcumentri_sfence_vma(h: &[u64], out: &mut [u64]) -> u64
-    ensures { λ r. ⌜ r ≡ stepCode (now (h .entry)) (now (out .entry)) ⌝ }
-    ensures { λ _. ⌜ now (out .exit) ≡ stepLeft sfenceVma (now (h .entry)) (now (out .entry)) ⌝ }
+    ensures { λ r. ⌜ (r, now (out .exit)) ≡ onStep sfenceVma (now (h .entry)) (now (out .entry)) ⌝ }
 {
-    if layout::misfit(h.len(), out.len(), 34) {
-        return 1;
-    }
-    layout::put_step(layout::hart_of(h).sfence_vma(), &mut *out);
-    0
+    layout::put_step(layout::hart_of(h).sfence_vma(), h.len(), &mut *out)
 }
 
 // HFENCE.VVMA.
 #[no_mangle]
 pub extern "C" fn balcumentri_hfence_vvma(h: &[u64], out: &mut [u64]) -> u64
-    ensures { λ r. ⌜ r ≡ stepCode (now (h .entry)) (now (out .entry)) ⌝ }
-    ensures { λ _. ⌜ now (out .exit) ≡ stepLeft hfenceVvma (now (h .entry)) (now (out .entry)) ⌝ }
+    ensures { λ r. ⌜ (r, now (out .exit)) ≡ onStep hfenceVvma (now (h .entry)) (now (out .entry)) ⌝ }
 {
-    if layout::misfit(h.len(), out.len(), 34) {
-        return 1;
-    }
-    layout::put_step(layout::hart_of(h).hfence_vvma(), &mut *out);
-    0
+    layout::put_step(layout::hart_of(h).hfence_vvma(), h.len(), &mut *out)
 }
 
 // HFENCE.GVMA.
 #[no_mangle]
 pub extern "C" fn balcumentri_hfence_gvma(h: &[u64], out: &mut [u64]) -> u64
-    ensures { λ r. ⌜ r ≡ stepCode (now (h .entry)) (now (out .entry)) ⌝ }
-    ensures { λ _. ⌜ now (out .exit) ≡ stepLeft hfenceGvma (now (h .entry)) (now (out .entry)) ⌝ }
+    ensures { λ r. ⌜ (r, now (out .exit)) ≡ onStep hfenceGvma (now (h .entry)) (now (out .entry)) ⌝ }
 {
-    if layout::misfit(h.len(), out.len(), 34) {
-        return 1;
-    }
-    layout::put_step(layout::hart_of(h).hfence_gvma(), &mut *out);
-    0
+    layout::put_step(layout::hart_of(h).hfence_gvma(), h.len(), &mut *out)
 }

@@ -1,20 +1,19 @@
--- What the test of the lengths says. Assumes nothing.
-use mathlib.Core.Path.{_≡_, refl, sym}
-use mathlib.Core.Bool.{Bool, true, false, _||_, not}
+-- What the tests of the lengths come to. Assumes nothing.
+use mathlib.Core.Path.{_≡_, refl}
+use mathlib.Core.Bool.{true, false}
 use Prim.Native.Nat.{ℕ}
-use lib.Dec.{eqb}
-use borrow.Author.Tests.{eqb-true}
+use borrow.Author.Tests.{eq-eqb, ne-eqb}
 use Rattle.layout.specs.Taken.{misfit}
 
-both : (a b : Bool) → (not a || not b) ≡ false → (a ≡ true) × (b ≡ true)
-both true true e = (refl, refl)
-both true false e = (refl, sym e)
-both false true e = (sym e, refl)
-both false false e = (sym e, sym e)
+module _ (given out n : ℕ) where
+  pub hart-wrong : (given ≡ 32 → ⊥) → misfit given out n ≡ true
+  unfolding misfit
+  hart-wrong h = simp (ne-eqb given 32 h)
 
-module _ (hart out n : ℕ) (fits : misfit hart out n ≡ false) where
-  pub hart-fits : hart ≡ 32
-  hart-fits = eqb-true hart 32 (both (eqb hart 32) (eqb out n) fits .0)
+  pub out-wrong : given ≡ 32 → (out ≡ n → ⊥) → misfit given out n ≡ true
+  unfolding misfit
+  out-wrong h o = simp (eq-eqb given 32 h, ne-eqb out n o)
 
-  pub out-fits : out ≡ n
-  out-fits = eqb-true out n (both (eqb hart 32) (eqb out n) fits .1)
+  pub both-fit : given ≡ 32 → out ≡ n → misfit given out n ≡ false
+  unfolding misfit
+  both-fit h o = simp (eq-eqb given 32 h, eq-eqb out n o)

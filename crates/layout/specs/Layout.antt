@@ -1,7 +1,8 @@
 -- The word layout: how a hart, what an event comes to and a translation travel as words.
 use mathlib.Core.List.{List, [], _∷_, _++_}
 use Prim.Native.Nat.{ℕ}
-use lib.ListN.{getD, drop}
+use lib.Dec.{eqb}
+use lib.ListN.{length, getD, drop, replicate}
 use Rattle.bits.specs.Field.{pick}
 use Rattle.rules.specs.declared.Fault.{Fault}
 use Rattle.rules.specs.declared.Machine.{Machine}
@@ -18,9 +19,12 @@ use Rattle.translate.specs.declared.Translated.{Translated}
 abbrev pub words : Hart → List ℕ
 words h = h .v ∷ h .privilege ∷ h .pc ∷ h .regs
 
--- the hart that 32 words say
-abbrev pub hartOf : List ℕ → Hart
-hartOf ws = record { v = getD ws 0 0; privilege = getD ws 1 0; pc = getD ws 2 0; regs = drop 3 ws }
+abbrev pub said : List ℕ → Hart
+said ws = record { v = getD ws 0 0; privilege = getD ws 1 0; pc = getD ws 2 0; regs = drop 3 ws }
+
+-- the hart that 32 words say; a blank one, which no call uses, where there are more words or fewer
+unfoldable pub hartOf : List ℕ → Hart
+hartOf ws = pick (eqb (length ws) 32) (said ws) (said (replicate 32 0))
 
 -- What an event came to, 2 words: 0 done; 1 trapped, and the cause; 2 refused, and the number.
 abbrev pub outcomeWords : Outcome → List ℕ
@@ -34,7 +38,7 @@ stepWords s = words (s .hart) ++ outcomeWords (s .outcome)
 
 -- A register access's result, 35 words: the same, and the value answered.
 unfoldable pub accessWords : Accessed → List ℕ
-accessWords a = words (a .hart) ++ (outcomeWords (a .outcome) ++ (a .value ∷ []))
+accessWords a = stepWords (record { hart = a .hart; outcome = a .outcome }) ++ (a .value ∷ [])
 
 -- A translation's answer, 6 words: 0 an address; 1 a refusal number; 2 a fault's cause, value, second value, word and flag.
 abbrev pub answerWords : Answer → List ℕ

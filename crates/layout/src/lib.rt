@@ -1,11 +1,7 @@
 // The word layout, in and out: a hart is read out of a slice, and results are written into one.
 ghost use mathlib.Core.Path.{_≡_};
-ghost use mathlib.Core.List.{_++_};
-ghost use Prim.Native.Nat.{_≤_};
-ghost use lib.ListN.{length, take};
-ghost use lib.Seq.{sets};
-ghost use Rattle.layout.specs.Layout.{words, hartOf, outcomeWords, stepWords, accessWords, answerWords, readWords, translationWords};
-ghost use Rattle.layout.specs.Taken.{misfit, kindOf};
+ghost use Rattle.layout.specs.Layout.{words, hartOf, outcomeWords, stepWords, accessWords, answerWords, translationWords};
+ghost use Rattle.layout.specs.Taken.{kindOf, put, putKind};
 use hart::access::Accessed;
 use hart::event::Outcome;
 use hart::event::Step;
@@ -13,42 +9,33 @@ use hart::state::Hart;
 use rules::Kind;
 use translate::Answer;
 use translate::Translated;
-use walk::Read;
 
-// Whether a hart's slice or a result's has a wrong length.
-pub fn misfit(hart: usize, out: usize, size: usize) -> bool
-    ensures { λ r. ⌜ r ≡ misfit hart out size ⌝ }
-{
-    (hart != 32) | (out != size)
-}
-
-// What a number names among the kinds of access.
-pub enum Named {
-    Is(Kind),
-    Unnamed,
-}
-
-pub fn kind_of(n: u64) -> Named
+// The kind of access with a number.
+pub fn kind_of(n: u64) -> Kind
     ensures { λ r. ⌜ r ≡ kindOf n ⌝ }
 {
     if n == 0 {
-        return Named::Is(Kind::Fetch);
+        return Kind::Fetch;
     }
     if n == 1 {
-        return Named::Is(Kind::Load);
+        return Kind::Load;
     }
-    if n == 2 {
-        return Named::Is(Kind::Store);
-    }
-    Named::Unnamed
+    Kind::Store
 }
 
-// The hart that 32 words say.
+// The hart that some words say.
 pub fn hart_of(ws: &[u64]) -> Hart
-    requires { ⌜ length (now ws) ≡ 32 ⌝ }
     ensures { λ r. ⌜ r ≡ hartOf (now (ws .entry)) ⌝ }
 {
     let mut regs = [0u64; 29];
+    if ws.len() != 32 {
+        return Hart {
+            v: 0,
+            privilege: 0,
+            pc: 0,
+            regs,
+        };
+    }
     let mut i: usize = 0;
     while i < 29 {
         regs[i] = ws[i + 3];
@@ -62,11 +49,19 @@ pub fn hart_of(ws: &[u64]) -> Hart
     }
 }
 
-// A hart's words, from the first place on.
-pub fn put_hart(h: Hart, out: &mut [u64])
-    requires { ⌜ 32 ≤ length (now out) ⌝ }
-    ensures { λ _. ⌜ now (out .exit) ≡ sets (now (out .entry)) 0 (words h) ⌝ }
+// The calls below write a result and return 0; where a length is wrong, that of the hart's slice (given) or the result's,
+// they return 1 and write nothing.
+
+// A hart.
+pub fn put_hart(h: Hart, given: usize, out: &mut [u64]) -> u64
+    ensures { λ r. ⌜ (r, now (out .exit)) ≡ put given 32 (now (out .entry)) (words h) ⌝ }
 {
+    if given != 32 {
+        return 1;
+    }
+    if out.len() != 32 {
+        return 1;
+    }
     out[0] = h.v;
     out[1] = h.privilege;
     out[2] = h.pc;
@@ -76,6 +71,7 @@ pub fn put_hart(h: Hart, out: &mut [u64])
         out[i + 3] = regs[i];
         i += 1;
     }
+    0
 }
 
 fn outcome_words(o: Outcome) -> [u64; 2]
@@ -89,30 +85,37 @@ fn outcome_words(o: Outcome) -> [u64; 2]
 }
 
 // An event's result.
-pub fn put_step(s: Step, out: &mut [u64])
-    requires { ⌜ length (now out) ≡ 34 ⌝ }
-    ensures { λ _. ⌜ now (out .exit) ≡ stepWords s ⌝ }
+pub fn put_step(s: Step, given: usize, out: &mut [u64]) -> u64
+    ensures { λ r. ⌜ (r, now (out .exit)) ≡ put given 34 (now (out .entry)) (stepWords s) ⌝ }
 {
+    if given != 32 {
+        return 1;
+    }
+    if out.len() != 34 {
+        return 1;
+    }
     let hart = s.hart;
     let outcome = s.outcome;
     let o = outcome_words(outcome);
-    put_hart(hart, &mut *out);
     out[32] = o[0];
     out[33] = o[1];
+    put_hart(hart, given, &mut out[..32])
 }
 
 // A register access's result.
-pub fn put_access(a: Accessed, out: &mut [u64])
-    requires { ⌜ length (now out) ≡ 35 ⌝ }
-    ensures { λ _. ⌜ now (out .exit) ≡ accessWords a ⌝ }
+pub fn put_access(a: Accessed, given: usize, out: &mut [u64]) -> u64
+    ensures { λ r. ⌜ (r, now (out .exit)) ≡ put given 35 (now (out .entry)) (accessWords a) ⌝ }
 {
+    if given != 32 {
+        return 1;
+    }
+    if out.len() != 35 {
+        return 1;
+    }
     let hart = a.hart;
     let outcome = a.outcome;
-    let o = outcome_words(outcome);
-    put_hart(hart, &mut *out);
-    out[32] = o[0];
-    out[33] = o[1];
     out[34] = a.value;
+    put_step(Step { hart, outcome }, given, &mut out[..34])
 }
 
 fn answer_words(a: Answer) -> [u64; 6]
@@ -132,11 +135,29 @@ fn answer_words(a: Answer) -> [u64; 6]
     }
 }
 
-// The list's places, after the first seven words.
-fn put_reads(reads: [Read; 15], out: &mut [u64])
-    requires { ⌜ length (now out) ≡ 67 ⌝ }
-    ensures { λ _. ⌜ now (out .exit) ≡ take 7 (now (out .entry)) ++ readWords reads ⌝ }
+// A translation's result; 2, and nothing is written, where no kind of access has the number.
+pub fn put_translation(t: Translated, given: usize, kind: u64, out: &mut [u64]) -> u64
+    ensures { λ r. ⌜ (r, now (out .exit)) ≡ putKind given 67 kind (now (out .entry)) (translationWords t) ⌝ }
 {
+    if given != 32 {
+        return 1;
+    }
+    if out.len() != 67 {
+        return 1;
+    }
+    if kind > 2 {
+        return 2;
+    }
+    let answer = t.answer;
+    let reads = t.reads;
+    let a = answer_words(answer);
+    out[0] = a[0];
+    out[1] = a[1];
+    out[2] = a[2];
+    out[3] = a[3];
+    out[4] = a[4];
+    out[5] = a[5];
+    out[6] = t.count as u64;
     let mut i: usize = 0;
     while i < 15 {
         let r = reads[i];
@@ -148,22 +169,5 @@ fn put_reads(reads: [Read; 15], out: &mut [u64])
         out[at + 3] = r.value;
         i += 1;
     }
-}
-
-// A translation's result.
-pub fn put_translation(t: Translated, out: &mut [u64])
-    requires { ⌜ length (now out) ≡ 67 ⌝ }
-    ensures { λ _. ⌜ now (out .exit) ≡ translationWords t ⌝ }
-{
-    let answer = t.answer;
-    let reads = t.reads;
-    let a = answer_words(answer);
-    out[0] = a[0];
-    out[1] = a[1];
-    out[2] = a[2];
-    out[3] = a[3];
-    out[4] = a[4];
-    out[5] = a[5];
-    out[6] = t.count as u64;
-    put_reads(reads, &mut *out);
+    0
 }

@@ -3,19 +3,24 @@ use mathlib.Core.Path.{_≡_, refl, sym, _∙_}
 use native.Mathlib.Omega.{arith}
 use lib.ListN.{length, drop, length-set, length-drop}
 use lib.Seq.{sets}
-use borrow.Author.Needs.{needs}
+use borrow.Author.Tests.{eq-eqb, ne-eqb}
+use Rattle.layout.specs.Layout.{hartOf}
 use Rattle.layout.proofs.Words.{sets-all, copied, copied-all}
 use Rattle.layout.proofs.hart_of.Statement.{statement}
 use Rattle.layout.proofs.hart_of.Tie as tie
 
 abbrev Inv-loop : tie.InvT-loop
-Inv-loop ws regs₀ i₀ regs i = (i ≤ 29) × (length ws ≡ 32) × (length regs ≡ 29) × (sets regs i (drop (i + 3) ws) ≡ drop 3 ws)
+Inv-loop ws regs₀ i₀ regs i = (i ≤ 29) × (length regs ≡ 29) × (sets regs i (drop (i + 3) ws) ≡ drop 3 ws)
 
 abbrev μ-loop : tie.MeasureT-loop
 μ-loop ws regs₀ i₀ regs i = 29 - i
 
+returns : tie.Need-returns Inv-loop μ-loop
+unfolding hartOf
+returns c = simp (ne-eqb _ _ (c .if1 .taken))
+
 loop-holds : tie.Need-loop-holds Inv-loop μ-loop
-loop-holds c = (omega arith, search needs, refl, sets-all (drop 3 (c .args .ws .now)) _ (sym (simp length-drop (omega arith))))
+loop-holds c = (omega arith, refl, sets-all (drop 3 (c .before .args .ws .now)) _ (sym (simp length-drop (omega arith))))
 
 add-regs : tie.Need-add-regs Inv-loop μ-loop
 add-regs c = omega arith
@@ -40,27 +45,26 @@ loop-less c = omega arith
 
 loop-again : tie.Need-loop-again Inv-loop μ-loop
 loop-again c =
-    let l = c .before .before .loop in
-    let ws = c .before .before .before .args .ws .now in (
+    let l = c .before .before .loop in (
       omega arith,
-      l .inv .1,
-      length-set (l .regs) (l .i) _ ∙ l .inv .2,
-      copied (l .regs) ws _ (l .i + 3) (l .i) (l .i + 1 + 3) (l .i + 1) (omega arith) (omega arith) (omega arith) (l .inv .3),
+      length-set (l .regs) (l .i) _ ∙ l .inv .1,
+      copied (l .regs) (c .before .before .before .before .args .ws .now) _ (l .i + 3) (l .i) (l .i + 1 + 3) (l .i + 1) (omega arith) (omega arith) (omega arith) (l .inv .2),
     )
 
-shared-slice-read-t13 : tie.Need-shared-slice-read-t13 Inv-loop μ-loop
-shared-slice-read-t13 c = omega arith
+shared-slice-read-t16 : tie.Need-shared-slice-read-t16 Inv-loop μ-loop
+shared-slice-read-t16 c = omega arith
 
-shared-slice-read-t15 : tie.Need-shared-slice-read-t15 Inv-loop μ-loop
-shared-slice-read-t15 c = omega arith
+shared-slice-read-t18 : tie.Need-shared-slice-read-t18 Inv-loop μ-loop
+shared-slice-read-t18 c = omega arith
 
-shared-slice-read-t17 : tie.Need-shared-slice-read-t17 Inv-loop μ-loop
-shared-slice-read-t17 c = omega arith
+shared-slice-read-t20 : tie.Need-shared-slice-read-t20 Inv-loop μ-loop
+shared-slice-read-t20 c = omega arith
 
-returns : tie.Need-returns Inv-loop μ-loop
-returns c =
+returns-2 : tie.Need-returns-2 Inv-loop μ-loop
+unfolding hartOf
+returns-2 c =
     let l = c .before .before .before .before .loop in
-    rw (copied-all (l .regs) (c .before .before .before .before .before .args .ws .now) _ (l .i + 3) (l .i) (omega arith) (l .inv .3))
+    rw (eq-eqb _ _ (c .before .before .before .before .before .if1 .left), copied-all (l .regs) (c .before .before .before .before .before .before .args .ws .now) _ (l .i + 3) (l .i) (omega arith) (l .inv .2))
 
 pub hart-of-spec : {M : Type 1} → statement M
 hart-of-spec =
@@ -68,6 +72,7 @@ hart-of-spec =
     (tie.spec
     Inv-loop
     μ-loop
+    returns
     loop-holds
     add-regs
     mul-regs
@@ -77,7 +82,7 @@ hart-of-spec =
     add-i
     loop-less
     loop-again
-    shared-slice-read-t13
-    shared-slice-read-t15
-    shared-slice-read-t17
-    returns)
+    shared-slice-read-t16
+    shared-slice-read-t18
+    shared-slice-read-t20
+    returns-2)

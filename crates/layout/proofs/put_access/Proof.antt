@@ -1,53 +1,59 @@
-use denote.Ref.{now}
-use Rattle.layout.specs.Layout.{accessWords}
-use Rattle.layout.proofs.Words.{access-written}
+use mathlib.Core.Path.{refl}
+use mathlib.Core.List.{[], _∷_}
 use native.Mathlib.Omega.{arith}
+use denote.Ref.{now}
 use lib.ListN.{length-set}
 use borrow.Author.Needs.{needs}
+use Rattle.layout.specs.Layout.{accessWords}
+use Rattle.layout.specs.Taken.{put}
+use Rattle.layout.proofs.Lengths.{hart-wrong, out-wrong}
+use Rattle.layout.proofs.Words.{lent-length, grown-length, grown}
 use Rattle.layout.proofs.put_access.Statement.{statement}
 use Rattle.layout.proofs.put_access.Tie as tie
 
-outcome-words-requires : tie.Need-outcome-words-requires
-outcome-words-requires c κs = search needs
+returns : tie.Need-returns
+unfolding put
+returns c = rw (hart-wrong _ _ 35 (c .if1 .taken))
 
-put-hart-requires : tie.Need-put-hart-requires
-put-hart-requires c κs = search needs
-
-array-read-out : tie.Need-array-read-out
-array-read-out c = search needs
+returns-2 : tie.Need-returns-2
+unfolding put
+returns-2 c = rw (out-wrong _ _ 35 (c .before .if1 .left) (c .if2 .taken))
 
 slice-write-out : tie.Need-slice-write-out
-slice-write-out c = search needs
+slice-write-out c = omega arith
 
-array-read-out-2 : tie.Need-array-read-out-2
-array-read-out-2 c = search needs
+slice-relend-prefix-put-step : tie.Need-slice-relend-prefix-put-step
+slice-relend-prefix-put-step c = simp length-set (omega arith)
 
-slice-write-out-2 : tie.Need-slice-write-out-2
-slice-write-out-2 c = simp length-set (omega arith)
+slice-aggregate-put-step : tie.Need-slice-aggregate-put-step
+slice-aggregate-put-step c =
+    let a = c .before .before .before .before .before .args in
+    lent-length (now (a .out)) (a .a .value ∷ []) 34 (omega arith)
 
-slice-write-out-3 : tie.Need-slice-write-out-3
-slice-write-out-3 c = simp length-set (omega arith)
+put-step-requires : tie.Need-put-step-requires
+put-step-requires c κs = search needs
 
 same-length : tie.Need-same-length
-same-length c = search needs
+same-length c =
+    let a = c .before .before .before .before .before .before .before .before .args in
+    grown-length (now (a .out)) (a .a .value ∷ []) 34 (c .before .before .put-step .last .1 .1 .0) (c .before .before .put-step .kept .1 .1 .0)
 
-returns : tie.Need-returns
+returns-3 : tie.Need-returns-3
 unfolding accessWords
-returns c =
-    let a = c .before .before .before .before .before .before .before .args in
-    rw (c .before .before .put-hart .ensures, c .before .before .before .before .outcome-words .ensures)
-    (access-written (a .a .hart) (a .a .outcome) (a .a .value) (now (a .out)) (search needs) (search needs))
+returns-3 c =
+    let a = c .before .before .before .before .before .before .before .before .args in
+    let p = c .before .before .put-step .ensures in
+    grown (now (a .out)) (a .a .value ∷ []) 34 (a .given) 35 _ _ _ (c .before .before .before .before .before .before .if1 .left) (c .before .before .before .before .before .if2 .left) refl p
 
 pub put-access-spec : {M : Type 1} → statement M
 put-access-spec =
     tie.close
     (tie.spec
-    outcome-words-requires
-    put-hart-requires
-    array-read-out
+    returns
+    returns-2
     slice-write-out
-    array-read-out-2
-    slice-write-out-2
-    slice-write-out-3
+    slice-relend-prefix-put-step
+    slice-aggregate-put-step
+    put-step-requires
     same-length
-    returns)
+    returns-3)

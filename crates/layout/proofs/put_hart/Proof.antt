@@ -1,18 +1,31 @@
-use Prim.Native.Nat.{_+_, _-_, _≤_}
-use mathlib.Core.Path.{_≡_, refl, _∙_}
+use Prim.Native.Nat.{ℕ, _+_, _-_, _≤_}
+use mathlib.Core.Path.{_≡_, refl, sym, _∙_, ap}
+use mathlib.Core.List.{List}
 use native.Mathlib.Omega.{arith}
+use denote.Ref.{now}
 use lib.ListN.{length, drop, length-set}
 use lib.Seq.{sets}
 use borrow.Author.Needs.{needs}
-use Rattle.layout.proofs.Words.{copied, copied-all}
+use Rattle.layout.specs.Layout.{words}
+use Rattle.layout.specs.Taken.{put}
+use Rattle.layout.proofs.Lengths.{hart-wrong, out-wrong, both-fit}
+use Rattle.layout.proofs.Words.{sets-all, copied, copied-all}
 use Rattle.layout.proofs.put_hart.Statement.{statement}
 use Rattle.layout.proofs.put_hart.Tie as tie
 
 abbrev Inv-loop : tie.InvT-loop
-Inv-loop out₀ regs i₀ out i = (i ≤ 29) × (length regs ≡ 29) × (32 ≤ length out₀) × (length out ≡ length out₀) × (sets out (i + 3) (drop i regs) ≡ sets out₀ 3 regs)
+Inv-loop given out₀ regs i₀ out i = (i ≤ 29) × (length regs ≡ 29) × (length out ≡ 32) × (sets out (i + 3) (drop i regs) ≡ sets out₀ 3 regs)
 
 abbrev μ-loop : tie.MeasureT-loop
-μ-loop out₀ regs i₀ out i = 29 - i
+μ-loop given out₀ regs i₀ out i = 29 - i
+
+returns : tie.Need-returns Inv-loop μ-loop
+unfolding put
+returns c = rw (hart-wrong _ _ 32 (c .if1 .taken))
+
+returns-2 : tie.Need-returns-2 Inv-loop μ-loop
+unfolding put
+returns-2 c = rw (out-wrong _ _ 32 (c .before .if1 .left) (c .if2 .taken))
 
 slice-write-out : tie.Need-slice-write-out Inv-loop μ-loop
 slice-write-out c = omega arith
@@ -24,7 +37,7 @@ slice-write-out-3 : tie.Need-slice-write-out-3 Inv-loop μ-loop
 slice-write-out-3 c = simp length-set (omega arith)
 
 loop-holds : tie.Need-loop-holds Inv-loop μ-loop
-loop-holds c = (search needs, search needs, simp length-set (omega arith), refl, refl)
+loop-holds c = (omega arith, search needs, simp length-set (omega arith), refl)
 
 mul-out : tie.Need-mul-out Inv-loop μ-loop
 mul-out c = omega arith
@@ -50,21 +63,23 @@ loop-less c = omega arith
 loop-again : tie.Need-loop-again Inv-loop μ-loop
 loop-again c =
     let l = c .before .loop in
-    let h = c .before .before .before .args .h in (
+    let h = c .before .before .before .before .before .args .h in (
       omega arith,
       l .inv .1,
-      l .inv .2,
-      length-set (l .out) (l .i + 3) _ ∙ l .inv .3,
-      copied (l .out) (h .regs) _ (l .i) (l .i + 3) (l .i + 1) (l .i + 1 + 3) (omega arith) (omega arith) (omega arith) (l .inv .4),
+      length-set (l .out) (l .i + 3) _ ∙ l .inv .2,
+      copied (l .out) (h .regs) _ (l .i) (l .i + 3) (l .i + 1) (l .i + 1 + 3) (omega arith) (omega arith) (omega arith) (l .inv .3),
     )
 
 same-length : tie.Need-same-length Inv-loop μ-loop
-same-length c = c .before .loop .inv .3 ∙ simp length-set
+same-length c = omega arith
 
-returns : tie.Need-returns Inv-loop μ-loop
-returns c =
+returns-3 : tie.Need-returns-3 Inv-loop μ-loop
+unfolding put
+returns-3 c =
     let l = c .before .loop in
-    copied-all (l .out) (c .before .before .before .args .h .regs) _ (l .i) (l .i + 3) (omega arith) (l .inv .4)
+    let a = c .before .before .before .before .before .args in
+    rw (both-fit _ _ 32 (c .before .before .before .before .if1 .left) (c .before .before .before .if2 .left))
+    (ap (λ (ws : List ℕ). (0, ws)) (copied-all (l .out) (a .h .regs) _ (l .i) (l .i + 3) (omega arith) (l .inv .3) ∙ sets-all (words (a .h)) (now (a .out)) (omega arith)))
 
 pub put-hart-spec : {M : Type 1} → statement M
 put-hart-spec =
@@ -72,6 +87,8 @@ put-hart-spec =
     (tie.spec
     Inv-loop
     μ-loop
+    returns
+    returns-2
     slice-write-out
     slice-write-out-2
     slice-write-out-3
@@ -85,4 +102,4 @@ put-hart-spec =
     loop-less
     loop-again
     same-length
-    returns)
+    returns-3)

@@ -1,23 +1,32 @@
-use denote.Ref.{now}
-use Rattle.layout.specs.Layout.{stepWords}
-use Rattle.layout.proofs.Words.{step-written}
+use mathlib.Core.Path.{_≡_, refl}
+use mathlib.Core.List.{[], _∷_}
 use native.Mathlib.Omega.{arith}
-use lib.ListN.{length-set}
+use denote.Ref.{now}
+use lib.ListN.{getD, length-set}
 use borrow.Author.Needs.{needs}
+use Rattle.layout.specs.Layout.{words, outcomeWords, stepWords}
+use Rattle.layout.specs.Taken.{put}
+use Rattle.layout.proofs.Lengths.{hart-wrong, out-wrong}
+use Rattle.layout.proofs.Words.{lent-length, grown-length, grown, two-words}
 use Rattle.layout.proofs.put_step.Statement.{statement}
 use Rattle.layout.proofs.put_step.Tie as tie
 
+returns : tie.Need-returns
+unfolding put
+returns c = rw (hart-wrong _ _ 34 (c .if1 .taken))
+
+returns-2 : tie.Need-returns-2
+unfolding put
+returns-2 c = rw (out-wrong _ _ 34 (c .before .if1 .left) (c .if2 .taken))
+
 outcome-words-requires : tie.Need-outcome-words-requires
 outcome-words-requires c κs = search needs
-
-put-hart-requires : tie.Need-put-hart-requires
-put-hart-requires c κs = search needs
 
 array-read-out : tie.Need-array-read-out
 array-read-out c = search needs
 
 slice-write-out : tie.Need-slice-write-out
-slice-write-out c = search needs
+slice-write-out c = omega arith
 
 array-read-out-2 : tie.Need-array-read-out-2
 array-read-out-2 c = search needs
@@ -25,25 +34,45 @@ array-read-out-2 c = search needs
 slice-write-out-2 : tie.Need-slice-write-out-2
 slice-write-out-2 c = simp length-set (omega arith)
 
-same-length : tie.Need-same-length
-same-length c = search needs
+slice-relend-prefix-put-hart : tie.Need-slice-relend-prefix-put-hart
+slice-relend-prefix-put-hart c = simp length-set (omega arith)
 
-returns : tie.Need-returns
+slice-aggregate-put-hart : tie.Need-slice-aggregate-put-hart
+slice-aggregate-put-hart c =
+    let o = c .before .outcome-words .result in
+    lent-length (now (c .before .before .before .before .before .before .args .out)) (getD o 0 0 ∷ getD o 1 0 ∷ []) 32 (omega arith)
+
+put-hart-requires : tie.Need-put-hart-requires
+put-hart-requires c κs = search needs
+
+same-length : tie.Need-same-length
+same-length c =
+    let o = c .before .before .before .before .outcome-words .result in
+    grown-length (now (c .before .before .before .before .before .before .before .before .before .args .out)) (getD o 0 0 ∷ getD o 1 0 ∷ []) 32 (c .before .before .put-hart .last .1 .1 .0) (c .before .before .put-hart .kept .1 .1 .0)
+
+returns-3 : tie.Need-returns-3
 unfolding stepWords
-returns c =
-    let a = c .before .before .before .before .before .before .before .args in
-    rw (c .before .before .put-hart .ensures, c .before .before .before .before .outcome-words .ensures)
-    (step-written (a .s .hart) (a .s .outcome) (now (a .out)) (search needs) (search needs))
+returns-3 c =
+    let a = c .before .before .before .before .before .before .before .before .before .args in
+    let o = c .before .before .before .before .outcome-words in
+    let e : getD (o .result) 0 0 ∷ getD (o .result) 1 0 ∷ [] ≡ outcomeWords (a .s .outcome) = rw (o .ensures) (two-words (a .s .outcome)) in
+    let p = c .before .before .put-hart .ensures in
+    rw (← e)
+    (grown (now (a .out)) (getD (o .result) 0 0 ∷ getD (o .result) 1 0 ∷ []) 32 (a .given) 34 _ _ (words (a .s .hart)) (c .before .before .before .before .before .before .before .if1 .left) (c .before .before .before .before .before .before .if2 .left) refl p)
 
 pub put-step-spec : {M : Type 1} → statement M
 put-step-spec =
     tie.close
     (tie.spec
+    returns
+    returns-2
     outcome-words-requires
-    put-hart-requires
     array-read-out
     slice-write-out
     array-read-out-2
     slice-write-out-2
+    slice-relend-prefix-put-hart
+    slice-aggregate-put-hart
+    put-hart-requires
     same-length
-    returns)
+    returns-3)

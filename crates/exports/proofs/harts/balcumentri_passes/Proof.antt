@@ -1,50 +1,36 @@
-use lib.ListN.{length}
-use mathlib.Core.Path.{refl, sym, _∙_}
-use mathlib.Core.List.{[], _∷_}
+use mathlib.Core.Path.{ap}
+use mathlib.Core.List.{List, [], _∷_}
+use Prim.Native.Nat.{ℕ}
 use native.Mathlib.Omega.{arith}
 use denote.Ref.{now}
-use Rattle.layout.proofs.Lengths.{hart-fits, out-fits}
+use lib.ListN.{length-set}
+use Rattle.layout.specs.Taken.{put}
+use Rattle.layout.proofs.Lengths.{hart-wrong, out-wrong, both-fit}
 use Rattle.layout.proofs.Words.{sets-all}
-use borrow.Author.Needs.{needs}
 use Rattle.exports.proofs.harts.balcumentri_passes.Statement.{statement}
 use Rattle.exports.proofs.harts.balcumentri_passes.Tie as tie
 
-misfit-requires : tie.Need-misfit-requires
-misfit-requires c κs = search needs
-
 returns : tie.Need-returns
-returns c = rw (sym (c .before .misfit .ensures) ∙ c .if1 .taken) (refl, refl)
-
-hart-of-requires : tie.Need-hart-of-requires
-hart-of-requires c κs = hart-fits (length (now (c .before .before .before .before .args .h))) (length (now (c .before .before .before .before .args .out))) 1 (sym (c .before .misfit .ensures) ∙ c .if1 .left)
-
-passes-requires : tie.Need-passes-requires
-passes-requires c κs = search needs
-
-select-requires : tie.Need-select-requires
-select-requires c κs = search needs
-
-slice-write-out : tie.Need-slice-write-out
-slice-write-out c = omega (arith, out-fits (length (now (c .before .before .before .before .before .before .before .args .h))) (length (now (c .before .before .before .before .before .before .before .args .out))) 1 (sym (c .before .before .before .before .misfit .ensures) ∙ c .before .before .before .if1 .left))
-
-same-length : tie.Need-same-length
-same-length c = search needs
+unfolding put
+returns c = rw (hart-wrong _ _ 1 (c .if1 .taken))
 
 returns-2 : tie.Need-returns-2
-returns-2 c =
-    let fits = sym (c .before .before .before .before .misfit .ensures) ∙ c .before .before .before .if1 .left in
-    rw (fits, c .select .ensures, c .before .passes .ensures, c .before .before .hart-of .ensures)
-    (refl, sets-all (_ ∷ []) (now (c .before .before .before .before .before .before .before .args .out)) (out-fits (length (now (c .before .before .before .before .before .before .before .args .h))) (length (now (c .before .before .before .before .before .before .before .args .out))) 1 fits))
+unfolding put
+returns-2 c = rw (out-wrong _ _ 1 (c .before .if1 .left) (c .if2 .taken))
+
+slice-write-out : tie.Need-slice-write-out
+slice-write-out c = omega arith
+
+same-length : tie.Need-same-length
+same-length c = simp length-set
+
+returns-3 : tie.Need-returns-3
+unfolding put
+returns-3 c =
+    rw (both-fit _ _ 1 (c .before .before .before .before .if1 .left) (c .before .before .before .if2 .left), c .select .ensures, c .before .passes .ensures, c .before .before .hart-of .ensures)
+    (ap (λ (ws : List ℕ). (0, ws)) (sets-all (_ ∷ []) (now (c .before .before .before .before .before .before .before .args .out)) (c .before .before .before .if2 .left)))
 
 pub balcumentri-passes-spec : {M : Type 1} → statement M
 balcumentri-passes-spec =
     tie.close
-    (tie.spec
-    misfit-requires
-    returns
-    hart-of-requires
-    passes-requires
-    select-requires
-    slice-write-out
-    same-length
-    returns-2)
+    (tie.spec returns returns-2 (λ c κs. tt) (λ c κs. tt) (λ c κs. tt) slice-write-out same-length returns-3)
