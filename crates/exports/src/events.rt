@@ -5,7 +5,7 @@ ghost use Rattle.hart.specs.Return.{mret, sret};
 ghost use Rattle.hart.specs.Wait.{wfi, sfenceVma, hfenceVvma, hfenceGvma};
 ghost use Rattle.hart.specs.declared.state.Hart.{Hart};
 ghost use Rattle.exports.specs.Calls.{onStep};
-use traps::Trap;
+use exceptions::Exception;
 
 // A trap request.
 #[no_mangle]
@@ -20,7 +20,7 @@ pub extern "C" fn balcumentri_trap(
 ) -> u64
     ensures { λ r. ⌜ (r, now (out .exit)) ≡ onStep (λ (x : Hart). trap x (record { cause = cause; value = value; second = second; word = word; flag = flag })) (now (h .entry)) (now (out .entry)) ⌝ }
 {
-    let t = Trap {
+    let t = Exception {
         cause,
         value,
         second,
