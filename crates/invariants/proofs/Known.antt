@@ -24,7 +24,7 @@ use Rattle.image.specs.declared.Entry.the-variants.{Value}
 use Rattle.rules.specs.declared.Kind.the-variants.{Load}
 use Rattle.rules.specs.declared.Machine.{Machine}
 use Rattle.rules.specs.Address.{first, wellFormed, extended, small, index}
-use Rattle.rules.specs.Entry.{faulty, judged}
+use Rattle.rules.specs.Entry.{malformed, badPointer, badLeaf, faulty, judged}
 use Rattle.walk.specs.declared.Read.{Read}
 use Rattle.walk.specs.Tree.{Ran, bind, run}
 use Rattle.walk.specs.Stages.{Outcome, yields, faults, follow, inspect, down, begin, final, walkOf}
@@ -101,5 +101,5 @@ replays =
     mret stays .hart .privilege gives 3 ∷ []
 
 pub known : every (λ i (r : Replay). eqb (r .answer) (r .known)) 0 replays ≡ true
-unfolding every get put legal stored firstAt registersPass passes deliveredM deliveredHS deliveredVS delivered settled returnedM mret written accessRow access run bind walkOf final begin down inspect follow index extended small judged faulty
+unfolding every get put legal stored firstAt registersPass passes deliveredM deliveredHS deliveredVS delivered settled returnedM mret written accessRow access run bind walkOf final begin down inspect follow index extended small judged malformed badPointer badLeaf faulty
 known = refl

@@ -11,7 +11,7 @@ use Rattle.bits.proofs.Fields.{get-lt}
 use Rattle.rules.specs.declared.Need.{Need}
 use Rattle.rules.specs.declared.Verdict.{Verdict}
 use Rattle.rules.specs.declared.Verdict.the-variants.{Pointer, Leaf, Bad}
-use Rattle.rules.specs.Entry.{PPN, pointer, reached, granted, faulty, target, offset, judged}
+use Rattle.rules.specs.Entry.{PPN, pointer, reached, granted, badPointer, badLeaf, faulty, target, offset, judged}
 
 or-true : (a : Bool) → (a || true) ≡ true
 or-true true = refl
@@ -20,7 +20,7 @@ or-true false = refl
 -- what an entry that is not faulty has, as a pointer and as a leaf
 module _ (n : Need) (level e : ℕ) (good : faulty n level e ≡ false) where
   pub pointer-high : pointer e ≡ true → eqb level 0 ≡ false
-  unfolding faulty
+  unfolding faulty badPointer
   pointer-high p = go (eqb level 0) refl
     where
       go : (b : Bool) → eqb level 0 ≡ b → b ≡ false
@@ -28,7 +28,7 @@ module _ (n : Need) (level e : ℕ) (good : faulty n level e ≡ false) where
       go false z = refl
 
   pub leaf-right : pointer e ≡ false → (reached n e && granted n e) ≡ true
-  unfolding faulty
+  unfolding faulty badLeaf
   leaf-right p = go (reached n e && granted n e) refl
     where
       go : (b : Bool) → (reached n e && granted n e) ≡ b → b ≡ true

@@ -51,18 +51,25 @@ reached n e = pick (n .user) (has U e) (not (has U e) || by (n .kind) false (n .
 abbrev pub granted : Need → ℕ → Bool
 granted n e = by (n .kind) (has X e) (has R e || (has X e && n .mxr)) (has W e)
 
--- "Both stages fault on", in the document's order, at an entry e of a level.
+-- "V=0; W without R; any of bits 63:54"
+unfoldable pub malformed : ℕ → Bool
+malformed e = not (has «V» e) || (has W e && not (has R e)) || not (eqb (get (span 63 54) e) 0)
+
+-- "a pointer with A, D or U; a pointer at level 0"
+unfoldable pub badPointer : ℕ → ℕ → Bool
+badPointer level e = has A e || has D e || has U e || eqb level 0
+
+-- "a large leaf with nonzero low PPN; and, at a leaf only: A=0; a store with D=0; a right missing"
+unfoldable pub badLeaf : Need → ℕ → ℕ → Bool
+badLeaf n level e =
+    not (eqb (get (lowPPN level) e) 0)
+    || not (has A e)
+    || by (n .kind) false false (not (has D e))
+    || not (reached n e && granted n e)
+
+-- "Both stages fault on": an entry e of a level
 unfoldable pub faulty : Need → ℕ → ℕ → Bool
-faulty n level e =
-    not (has «V» e)
-    || (has W e && not (has R e))
-    || not (eqb (get (span 63 54) e) 0)
-    || (pointer e && (has A e || has D e || has U e))
-    || (pointer e && eqb level 0)
-    || (not (pointer e) && not (eqb (get (lowPPN level) e) 0))
-    || (not (pointer e) && not (has A e))
-    || (not (pointer e) && by (n .kind) false false (not (has D e)))
-    || (not (pointer e) && not (reached n e && granted n e))
+faulty n level e = malformed e || pick (pointer e) (badPointer level e) (badLeaf n level e)
 
 -- where an entry leads: its PPN times 4096
 abbrev pub target : ℕ → ℕ

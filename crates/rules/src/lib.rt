@@ -1,9 +1,11 @@
 // The rules of one page-table entry and of an address, and the faults of an access.
 ghost use mathlib.Core.Path.{_≡_};
-ghost use Prim.Native.Nat.{_+_, _-_, _*_, _<_, _≤_};
-ghost use Rattle.bits.specs.Field.{get};
+ghost use Prim.Native.Nat.{_+_, _-_, _*_, _^_, _<_, _≤_};
+ghost use mathlib.Core.Bool.{_||_};
+ghost use Rattle.bits.specs.Field.{get, pick};
 ghost use Rattle.rules.specs.Kind.{by};
-ghost use Rattle.rules.specs.Entry.{pointer, reached, granted, faulty, target, offset, judged};
+ghost use Rattle.rules.specs.declared.Verdict.the-variants as Verdict;
+ghost use Rattle.rules.specs.Entry.{pointer, reached, granted, malformed, badPointer, badLeaf, target, offset, judged};
 ghost use Rattle.rules.specs.Address.{Stage, wellFormed, indexBits, index};
 ghost use Rattle.rules.specs.Faults.{raised, misalignment, accessFault, pageFault, guestPageFault, entryFault, firstNeed, secondNeed, entryNeed};
 use bits::Field;
@@ -104,6 +106,32 @@ fn is_pointer(e: u64) -> bool
     !(has(R, e) | has(X, e))
 }
 
+// Whether a rule finds fault with an entry, pointer or leaf.
+fn is_malformed(e: u64) -> bool
+    ensures { λ r. ⌜ r ≡ malformed e ⌝ }
+{
+    let high = Field { low: 54, width: 10 };
+    !has(V, e) | (has(W, e) & !has(R, e)) | (high.get(e) != 0)
+}
+
+// The PPN times 4096.
+fn leads_to(e: u64) -> u64
+    ensures { λ r. ⌜ (r ≡ target e) × (r < 2 ^ 56) ⌝ }
+{
+    let ppn = Field { low: 10, width: 44 };
+    ppn.get(e) * 4096
+}
+
+// What a pointer is at its level.
+fn pointer(level: u64, e: u64) -> Verdict
+    ensures { λ r. ⌜ r ≡ pick (malformed e || badPointer level e) Verdict.Bad (Verdict.Pointer (target e)) ⌝ }
+{
+    if is_malformed(e) | (has(A, e) | has(D, e) | has(U, e) | (level == 0)) {
+        return Verdict::Bad;
+    }
+    Verdict::Pointer(leads_to(e))
+}
+
 impl Need {
     // U and SUM.
     fn reaches(self, e: u64) -> bool
@@ -127,27 +155,35 @@ impl Need {
         kind.test(x, has(R, e) | (x & self.mxr), has(W, e))
     }
 
-    // Whether a rule finds fault with an entry at a level.
+    // Whether a rule finds fault with a leaf at a level.
     fn rejects(self, level: u64, e: u64) -> bool
         requires { ⌜ level < 5 ⌝ }
-        ensures { λ r. ⌜ r ≡ faulty self level e ⌝ }
+        ensures { λ r. ⌜ r ≡ badLeaf self level e ⌝ }
     {
         let kind = self.kind;
-        let p = is_pointer(e);
-        let high = Field { low: 54, width: 10 };
         let low = Field {
             low: 10,
             width: 9 * level,
         };
-        !has(V, e)
-            | (has(W, e) & !has(R, e))
-            | (high.get(e) != 0)
-            | (p & (has(A, e) | has(D, e) | has(U, e)))
-            | (p & (level == 0))
-            | (!p & (low.get(e) != 0))
-            | (!p & !has(A, e))
-            | (!p & kind.test(false, false, !has(D, e)))
-            | (!p & !(self.reaches(e) & self.grants(e)))
+        (low.get(e) != 0)
+            | !has(A, e)
+            | kind.test(false, false, !has(D, e))
+            | !(self.reaches(e) & self.grants(e))
+    }
+
+    // What a leaf yields for an address.
+    fn leaf(self, level: u64, address: u64, e: u64) -> Verdict
+        requires { ⌜ level < 5 ⌝ }
+        ensures { λ r. ⌜ r ≡ pick (malformed e || badLeaf self level e) Verdict.Bad (Verdict.Leaf (target e + get (offset level) address)) ⌝ }
+    {
+        if is_malformed(e) | self.rejects(level, e) {
+            return Verdict::Bad;
+        }
+        let offset = Field {
+            low: 0,
+            width: 12 + 9 * level,
+        };
+        Verdict::Leaf(leads_to(e) + offset.get(address))
     }
 
     // What an entry is at its level, and where it leads an address.
@@ -155,19 +191,10 @@ impl Need {
         requires { ⌜ level < 5 ⌝ }
         ensures { λ r. ⌜ r ≡ judged self level address e ⌝ }
     {
-        if self.rejects(level, e) {
-            return Verdict::Bad;
-        }
-        let ppn = Field { low: 10, width: 44 };
-        let target = ppn.get(e) * 4096;
         if is_pointer(e) {
-            return Verdict::Pointer(target);
+            return pointer(level, e);
         }
-        let offset = Field {
-            low: 0,
-            width: 12 + 9 * level,
-        };
-        Verdict::Leaf(target + offset.get(address))
+        self.leaf(level, address, e)
     }
 }
 

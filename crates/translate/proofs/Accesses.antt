@@ -1,9 +1,11 @@
 -- What an access that was not refused has, and what a walk's result makes of the answer. Assumes nothing.
 use mathlib.Core.Path.{_≡_, refl, sym}
 use mathlib.Core.Bool.{Bool, true, false, _||_, not}
+use mathlib.Core.List.{List}
 use Prim.Native.Nat.{ℕ, zero, suc, _%_, _^_, _<_, _≤_}
 use native.Mathlib.Omega.{arith}
 use lib.Dec.{eqb}
+use lib.ListN.{length}
 use borrow.Author.Tests.{eqb-true}
 use Rattle.bits.specs.Field.{pick, get}
 use Rattle.bits.proofs.Bools.{clash, pick-both, or-left, or-right}
@@ -11,21 +13,27 @@ use Rattle.bits.proofs.Fields.{get-lt}
 use Rattle.registers.specs.Fields.{MODE, PPN}
 use Rattle.registers.specs.Places.{satp, vsatp, hgatp}
 use Rattle.hart.specs.declared.state.Hart.{Hart}
-use Rattle.hart.specs.Hart.{reg}
+use Rattle.hart.specs.Hart.{reg, passes}
+use Rattle.image.specs.Image.{unfit}
+use Rattle.rules.specs.declared.Access.{Access}
 use Rattle.rules.specs.declared.Kind.{Kind}
 use Rattle.rules.specs.declared.Kind.the-variants.{Fetch, Load, Store}
 use Rattle.rules.specs.declared.Machine.{Machine}
 use Rattle.rules.specs.declared.Root.{Root}
+use Rattle.rules.specs.Faults.{misalignment}
 use Rattle.walk.specs.declared.Walked.{Walked}
-use Rattle.walk.specs.Tree.{Ran}
-use Rattle.walk.specs.Stages.{Outcome, yields, faults}
+use Rattle.walk.specs.Tree.{bind, run}
+use Rattle.walk.specs.Stages.{Outcome, yields, faults, look, begin, final, walkOf}
 use Rattle.walk.specs.Listed.{reached, walked}
 use Rattle.walk.specs.Place.{outcome, Tables}
 use Rattle.translate.specs.declared.Answer.{Answer}
 use Rattle.translate.specs.declared.Mode.{Mode}
 use Rattle.translate.specs.declared.Translated.{Translated}
 use Rattle.translate.specs.Effective.{effective, root, off, firstRoot, secondRoot, accessOf}
-use Rattle.translate.specs.Translated.{unsupported, misaligned, answer, walkedTo}
+use Rattle.translate.specs.declared.Stop.{Stop}
+use Rattle.translate.specs.declared.Stop.the-variants.{Refused, Misaligned, Walks}
+use Rattle.translate.specs.Stop.{stopOf, walks, onlyIf, answerOf}
+use Rattle.translate.specs.Translated.{unsupported, misaligned, answer, unwalked, walkedTo, translated}
 
 -- an access that is not refused has a width
 pub some-width : (kind : Kind) (address width : ℕ) → unsupported kind address width ≡ false → 0 < width
@@ -97,11 +105,38 @@ tables-of h kind address width =
     let s = second-three h (effective h kind) in
     (record { first = omega (arith, f .levels); second = omega (arith, s .levels); firstRoot = f .ppn; secondRoot = s .ppn }, f .levels, s .levels)
 
+-- the tables of an access that walks only if it is not stopped
+pub tables-if : (goes : Bool) (a : Access) → Tables a × (a .first .levels ≤ 3) × (a .second .levels ≤ 3) → Tables (onlyIf goes a) × (onlyIf goes a .first .levels ≤ 3) × (onlyIf goes a .second .levels ≤ 3)
+tables-if true a h = h
+tables-if false a h = (record { first = omega arith; second = omega arith; firstRoot = omega arith; secondRoot = omega arith }, omega arith, omega arith)
+
 same-answer : (o : Outcome Machine) → answer (outcome (reached o)) ≡ answer o
 same-answer (yields m) = refl
 same-answer (faults f) = refl
 
--- what a walk's result makes of the answer
-pub handed-on : (h : Hart) (w : Walked) (r : Ran (Outcome Machine)) (x : Answer) → w ≡ walked r → x ≡ answer (outcome (w .reached))
-    → _≡_ {A = Translated} (record { hart = h; answer = x; reads = w .reads; count = w .count }) (walkedTo h r)
-handed-on h w r x e q = rw (q, e, same-answer (r .end))
+-- what the code puts together is the translation
+module _ (h : Hart) (base : ℕ) (bytes : List ℕ) (kind : Kind) (address width : ℕ) (w : Walked) where
+  abbrev a : Access
+  a = accessOf h kind address width
+
+  abbrev put-together : Stop → Translated
+  put-together s = record { hart = h; answer = answerOf s a (outcome (w .reached)); reads = w .reads; count = w .count }
+
+  abbrev walk-of : Stop → Walked
+  walk-of s = walked (run (look base bytes) (walkOf base (length bytes) (onlyIf (walks s) a)))
+
+  stopped : (s : Stop) (x : Answer) → walks s ≡ false → answerOf s a (outcome (w .reached)) ≡ x → w ≡ walk-of s → put-together s ≡ unwalked h x
+  unfolding walkOf final begin bind run
+  stopped s x n q e = rw (q, e, n)
+
+  pub settled-by : w ≡ walk-of (stopOf h base (length bytes) kind address width) → put-together (stopOf h base (length bytes) kind address width) ≡ translated h base bytes kind address width
+  unfolding stopOf translated
+  settled-by = go (not (passes h)) (unfit base (length bytes)) (unsupported kind address width) (misaligned kind address width)
+    where
+      go : (b₁ b₂ b₃ b₄ : Bool) → let s : Stop = pick b₁ (Refused 2) (pick b₂ (Refused 1) (pick b₃ (Refused 3) (pick b₄ Misaligned Walks))) in
+          w ≡ walk-of s → put-together s ≡ pick b₁ (unwalked h (Answer.Refused 2)) (pick b₂ (unwalked h (Answer.Refused 1)) (pick b₃ (unwalked h (Answer.Refused 3)) (pick b₄ (unwalked h (Answer.Fault (misalignment a))) (walkedTo h (run (look base bytes) (walkOf base (length bytes) a))))))
+      go true b₂ b₃ b₄ e = stopped (Refused 2) _ refl refl e
+      go false true b₃ b₄ e = stopped (Refused 1) _ refl refl e
+      go false false true b₄ e = stopped (Refused 3) _ refl refl e
+      go false false false true e = stopped Misaligned _ refl refl e
+      go false false false false e = rw (e, same-answer (run (look base bytes) (walkOf base (length bytes) a) .end))

@@ -1,2 +1,3 @@
 pub mod Effective
 pub mod Translated
+pub mod Stop

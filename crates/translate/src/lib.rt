@@ -3,7 +3,8 @@ ghost use mathlib.Core.Path.{_≡_};
 ghost use Prim.Native.Nat.{_%_, _<_};
 ghost use Rattle.walk.specs.Place.{outcome};
 ghost use Rattle.translate.specs.Effective.{effective, root, off, firstRoot, secondRoot, inMode, accessOf};
-ghost use Rattle.translate.specs.Translated.{unsupported, misaligned, answer, unwalked, translated};
+ghost use Rattle.translate.specs.Stop.{stopOf, walks, onlyIf, answerOf};
+ghost use Rattle.translate.specs.Translated.{unsupported, misaligned, translated};
 use exceptions::Exception;
 use hart::state::Hart;
 use registers::fields;
@@ -25,6 +26,13 @@ pub enum Answer {
     Address(Machine),
     Refused(u64),
     Fault(Exception),
+}
+
+// What a translation comes to before its walk.
+pub enum Stop {
+    Refused(u64),
+    Misaligned,
+    Walks,
 }
 
 pub struct Translated {
@@ -134,35 +142,72 @@ fn is_misaligned(kind: Kind, address: u64, width: u64) -> bool
     kind.test(false, t, t)
 }
 
-// What a walk came to, as the answer.
-fn answered(r: Reached) -> Answer
-    ensures { λ x. ⌜ x ≡ answer (outcome r) ⌝ }
+// The order of refusals, and misalignment.
+fn stops(h: Hart, base: u64, len: u64, kind: Kind, address: u64, width: u64) -> Stop
+    ensures { λ r. ⌜ r ≡ stopOf h base len kind address width ⌝ }
 {
-    match r {
-        Reached::At(m) => Answer::Address(m),
-        Reached::Failed(f) => Answer::Fault(f),
+    if !h.passes() {
+        return Stop::Refused(2);
+    }
+    if image::refused(base, len) {
+        return Stop::Refused(1);
+    }
+    if refused(kind, address, width) {
+        return Stop::Refused(3);
+    }
+    if is_misaligned(kind, address, width) {
+        return Stop::Misaligned;
+    }
+    Stop::Walks
+}
+
+fn walks(s: Stop) -> bool
+    ensures { λ r. ⌜ r ≡ walks s ⌝ }
+{
+    match s {
+        Stop::Walks => true,
+        Stop::Refused(_) => false,
+        Stop::Misaligned => false,
     }
 }
 
-// An answer with the list empty.
-fn at_once(h: Hart, answer: Answer) -> Translated
-    ensures { λ r. ⌜ r ≡ unwalked h answer ⌝ }
+// The access, its stages off if it does not walk.
+fn only_if(goes: bool, a: Access) -> Access
+    ensures { λ r. ⌜ r ≡ onlyIf goes a ⌝ }
 {
-    let reads = [Read {
-        stage: 0,
-        level: 0,
-        address: Machine(0),
-        value: 0,
-    }; 15];
-    Translated {
-        hart: h,
-        answer: answer,
-        reads: reads,
-        count: 0,
+    if goes {
+        return a;
+    }
+    let kind = a.kind;
+    Access {
+        kind: kind,
+        address: a.address,
+        width: a.width,
+        v: a.v,
+        user: a.user,
+        sum: a.sum,
+        mxr: a.mxr,
+        mmxr: a.mmxr,
+        first: bare(),
+        second: bare(),
     }
 }
 
-// The translation of an access: the hart as it was, the answer, and the entries read for it.
+fn answered(s: Stop, a: Access, r: Reached) -> Answer
+    ensures { λ x. ⌜ x ≡ answerOf s a (outcome r) ⌝ }
+{
+    match s {
+        Stop::Refused(number) => Answer::Refused(number),
+        Stop::Misaligned => Answer::Fault(a.misalignment()),
+        Stop::Walks => match r {
+            Reached::At(m) => Answer::Address(m),
+            Reached::Failed(f) => Answer::Fault(f),
+        },
+    }
+}
+
+// The translation of an access: the hart as it was, the answer, and the entries read for it. One list is made, whatever the
+// answer: an access that is stopped walks nothing.
 pub fn translate(
     h: Hart,
     base: u64,
@@ -173,25 +218,14 @@ pub fn translate(
 ) -> Translated
     ensures { λ r. ⌜ r ≡ translated h base (now (bytes .entry)) kind address width ⌝ }
 {
-    if !h.passes() {
-        return at_once(h, Answer::Refused(2));
-    }
-    if image::refused(base, bytes.len() as u64) {
-        return at_once(h, Answer::Refused(1));
-    }
-    if refused(kind, address, width) {
-        return at_once(h, Answer::Refused(3));
-    }
+    let s = stops(h, base, bytes.len() as u64, kind, address, width);
     let a = access(h, kind, address, width);
-    if is_misaligned(kind, address, width) {
-        return at_once(h, Answer::Fault(a.misalignment()));
-    }
-    let w = walk::walk(base, bytes, a);
+    let w = walk::walk(base, bytes, only_if(walks(s), a));
     let reads = w.reads;
     let reached = w.reached;
     Translated {
         hart: h,
-        answer: answered(reached),
+        answer: answered(s, a, reached),
         reads: reads,
         count: w.count,
     }

@@ -1,101 +1,47 @@
-use mathlib.Core.Path.{sym, ap, _∙_}
-use mathlib.Core.Bool.{not}
-use lib.ListN.{length}
+use Rattle.translate.specs.Stop.{walks}
 use denote.Ref.{now}
-use Rattle.rules.specs.Faults.{misalignment}
-use Rattle.walk.specs.Tree.{run}
-use Rattle.walk.specs.Stages.{look, walkOf}
-use Rattle.translate.specs.Effective.{accessOf}
-use Rattle.translate.specs.Translated.{unwalked, translated}
-use Rattle.translate.specs.declared.Answer.{Answer}
-use Rattle.translate.proofs.Accesses.{some-width, tables-of, handed-on}
+use Rattle.translate.proofs.Accesses.{tables-of, tables-if, settled-by}
 use borrow.Author.Needs.{needs}
 use Rattle.translate.proofs.translate.Statement.{statement}
 use Rattle.translate.proofs.translate.Tie as tie
 
-passes-requires : tie.Need-passes-requires
-passes-requires c κs = search needs
-
-at-once-requires : tie.Need-at-once-requires
-at-once-requires c κs = search needs
-
-returns : tie.Need-returns
-unfolding translated
-returns c = rw (ap not (sym (c .before .before .passes .ensures)) ∙ c .before .if1 .taken) (c .at-once .ensures)
-
-refused-requires : tie.Need-refused-requires
-refused-requires c κs = search needs
-
-at-once-requires-2 : tie.Need-at-once-requires-2
-at-once-requires-2 c κs = search needs
-
-returns-2 : tie.Need-returns-2
-unfolding translated
-returns-2 c = rw (ap not (sym (c .before .before .before .before .passes .ensures)) ∙ c .before .before .before .if1 .left, sym (c .before .before .refused .ensures) ∙ c .before .if2 .taken) (c .at-once2 .ensures)
-
-refused-requires-2 : tie.Need-refused-requires-2
-refused-requires-2 c κs = search needs
-
-at-once-requires-3 : tie.Need-at-once-requires-3
-at-once-requires-3 c κs = search needs
-
-returns-3 : tie.Need-returns-3
-unfolding translated
-returns-3 c = rw (ap not (sym (c .before .before .before .before .before .before .passes .ensures)) ∙ c .before .before .before .before .before .if1 .left, sym (c .before .before .before .before .refused .ensures) ∙ c .before .before .before .if2 .left, sym (c .before .before .refused2 .ensures) ∙ c .before .if3 .taken) (c .at-once3 .ensures)
+stops-requires : tie.Need-stops-requires
+stops-requires c κs = search needs
 
 access-requires : tie.Need-access-requires
 access-requires c κs = search needs
 
-is-misaligned-requires : tie.Need-is-misaligned-requires
-is-misaligned-requires c κs = some-width _ _ _ (sym (c .before .before .refused2 .ensures) ∙ c .before .if3 .left)
+walks-requires : tie.Need-walks-requires
+walks-requires c κs = search needs
 
-misalignment-requires : tie.Need-misalignment-requires
-misalignment-requires c κs = search needs
-
-at-once-requires-4 : tie.Need-at-once-requires-4
-at-once-requires-4 c κs = search needs
-
-returns-4 : tie.Need-returns-4
-unfolding translated
-returns-4 c =
-    let a = c .before .before .before .before .before .before .before .before .before .before .before .before .args in
-    rw (ap not (sym (c .before .before .before .before .before .before .before .before .before .before .passes .ensures)) ∙ c .before .before .before .before .before .before .before .before .before .if1 .left, sym (c .before .before .before .before .before .before .before .before .refused .ensures) ∙ c .before .before .before .before .before .before .before .if2 .left, sym (c .before .before .before .before .before .before .refused2 .ensures) ∙ c .before .before .before .before .before .if3 .left, sym (c .before .before .before .is-misaligned .ensures) ∙ c .before .before .if4 .taken)
-    (c .at-once4 .ensures ∙ ap (λ f. unwalked (a .h) (Answer.Fault f)) (c .before .misalignment .ensures ∙ ap misalignment (c .before .before .before .before .access .ensures)))
+only-if-requires : tie.Need-only-if-requires
+only-if-requires c κs = search needs
 
 walk-requires : tie.Need-walk-requires
 walk-requires c κs =
-    let a = c .before .before .before .before .before .before .before .before .before .before .args in
-    rw (c .before .before .access .ensures) (tables-of (a .h) (a .kind) (a .address) (a .width))
+    let a = c .before .before .before .before .before .args in
+    rw (c .only-if .ensures, c .before .walks .ensures, c .before .before .access .ensures) (tables-if (walks (c .before .before .before .stops .result)) _ (tables-of (a .h) (a .kind) (a .address) (a .width)))
 
 answered-requires : tie.Need-answered-requires
 answered-requires c κs = search needs
 
-returns-5 : tie.Need-returns-5
-unfolding translated
-returns-5 c =
-    let a = c .before .before .before .before .before .before .before .before .before .before .before .before .before .args in
-    let r = run (look (a .base) (now (a .bytes))) (walkOf (a .base) (length (now (a .bytes))) (accessOf (a .h) (a .kind) (a .address) (a .width))) in
-    rw (ap not (sym (c .before .before .before .before .before .before .before .before .before .before .before .passes .ensures)) ∙ c .before .before .before .before .before .before .before .before .before .before .if1 .left, sym (c .before .before .before .before .before .before .before .before .before .refused .ensures) ∙ c .before .before .before .before .before .before .before .before .if2 .left, sym (c .before .before .before .before .before .before .before .refused2 .ensures) ∙ c .before .before .before .before .before .before .if3 .left, sym (c .before .before .before .before .is-misaligned .ensures) ∙ c .before .before .before .if4 .left)
-    (handed-on (a .h) (c .before .before .walk .result) r (c .answered .result) (rw (c .before .before .before .before .before .access .ensures) at (c .before .before .walk .ensures)) (c .answered .ensures))
+returns : tie.Need-returns
+returns c =
+    let a = c .before .before .before .before .before .before .before .before .args in
+    let stops = c .before .before .before .before .before .before .stops .ensures in
+    let access = c .before .before .before .before .before .access .ensures in
+    rw (c .answered .ensures, access, stops)
+    (settled-by (a .h) (a .base) (now (a .bytes)) (a .kind) (a .address) (a .width) (c .before .before .walk .result)
+    (rw (c .before .before .before .only-if .ensures, c .before .before .before .before .walks .ensures, access, stops) at (c .before .before .walk .ensures)))
 
 pub translate-spec : {M : Type 1} → statement M
 translate-spec =
     tie.close
     (tie.spec
-    passes-requires
-    at-once-requires
-    returns
-    refused-requires
-    at-once-requires-2
-    returns-2
-    refused-requires-2
-    at-once-requires-3
-    returns-3
+    stops-requires
     access-requires
-    is-misaligned-requires
-    misalignment-requires
-    at-once-requires-4
-    returns-4
+    walks-requires
+    only-if-requires
     walk-requires
     answered-requires
-    returns-5)
+    returns)
