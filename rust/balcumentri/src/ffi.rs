@@ -4,6 +4,7 @@
 #![allow(unsafe_code)]
 
 use crate::translation::{Image, Read};
+use std::mem::MaybeUninit;
 
 /// How many registers the table has.
 pub const REGISTERS: usize = 29;
@@ -129,12 +130,11 @@ pub fn translate(
     kind: u64,
     address: u64,
     width: u64,
-    out: &mut TranslationWords,
-) {
-    let words: *mut TranslationWords = out;
-    // SAFETY: hart, the bytes and out are lent for the call, each with its own length; out is lent mutably, so it overlaps neither.
-    // It is 67 words by its layout and the assertion on its size, and any words are a value of it.
-    unsafe {
+) -> TranslationWords {
+    let mut out = MaybeUninit::<TranslationWords>::uninit();
+    // SAFETY: hart, the bytes and out are lent for the call, each with its own length; out is a new local, so it overlaps neither.
+    // It has room for 67 words, by its layout and the assertion on its size.
+    let code = unsafe {
         balcumentri_translate(
             hart.as_ptr(),
             hart.len(),
@@ -144,10 +144,15 @@ pub fn translate(
             kind,
             address,
             width,
-            words.cast(),
+            out.as_mut_ptr().cast(),
             TRANSLATION_WORDS,
         )
     };
+    if code != 0 {
+        return TranslationWords::default();
+    }
+    // SAFETY: a call that returns 0 has written all 67 words, and any words are a value of the type.
+    unsafe { out.assume_init() }
 }
 
 /// Reads a register.

@@ -103,9 +103,13 @@ impl Hart {
             address,
             width,
         } = access;
-        Translation::written(|out| {
-            ffi::translate(&self.words, image, kind.number(), address, width, out)
-        })
+        Translation(ffi::translate(
+            &self.words,
+            image,
+            kind.number(),
+            address,
+            width,
+        ))
     }
 
     /// Reads the register with a number.

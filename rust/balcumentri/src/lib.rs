@@ -17,7 +17,7 @@
 //!
 //! let load = Access { kind: Kind::Load, address: 0x4000_1008, width: 8 };
 //! let translation = hart.translate(image, load);
-//! assert_eq!(translation.answer, Answer::Address(0x8001_0008));
+//! assert_eq!(translation.answer(), Answer::Address(0x8001_0008));
 //! assert_eq!(translation.reads().len(), 3);
 //! ```
 #![deny(missing_docs)]

@@ -75,29 +75,14 @@ pub struct Read {
 
 /// A translation: the answer, and the entries read for it.
 #[derive(Clone, Copy, Debug)]
-pub struct Translation {
-    /// The answer.
-    pub answer: Answer,
-    words: TranslationWords,
-}
+pub struct Translation(pub(crate) TranslationWords);
 
 impl Translation {
-    /// The entries, in the order in which they were read.
-    pub fn reads(&self) -> &[Read] {
-        let count = self.words.count.min(15) as usize;
-        &self.words.places[..count]
-    }
-
-    /// What a call writes into the words that it is lent.
+    /// The answer.
     #[inline]
-    pub(crate) fn written(call: impl FnOnce(&mut TranslationWords)) -> Self {
-        let mut translation = Translation {
-            answer: Answer::Refused(0),
-            words: TranslationWords::default(),
-        };
-        let words = &mut translation.words;
-        call(words);
-        translation.answer = match words.kind {
+    pub fn answer(&self) -> Answer {
+        let words = &self.0;
+        match words.kind {
             0 => Answer::Address(words.number),
             1 => Answer::Refused(words.number),
             _ => Answer::Fault(Fault {
@@ -107,8 +92,14 @@ impl Translation {
                 word: words.word,
                 flag: words.flag == 1,
             }),
-        };
-        translation
+        }
+    }
+
+    /// The entries, in the order in which they were read.
+    #[inline]
+    pub fn reads(&self) -> &[Read] {
+        let count = self.0.count.min(15) as usize;
+        &self.0.places[..count]
     }
 }
 

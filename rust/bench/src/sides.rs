@@ -97,7 +97,7 @@ pub fn same(
     words: &TranslationWords,
 ) -> Result<(), String> {
     let list = plain.places.get(..plain.count).unwrap_or(&[]);
-    if plain.answer != proved.answer || list != proved.reads() {
+    if plain.answer != proved.answer() || list != proved.reads() {
         return Err(format!(
             "plain Rust gives {plain:x?}, the proved library {proved:x?}"
         ));

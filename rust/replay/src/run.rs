@@ -159,7 +159,7 @@ fn name(instruction: Instruction) -> &'static str {
 }
 
 fn write_translation(out: &mut impl Write, translation: &Translation) -> io::Result<()> {
-    match translation.answer {
+    match translation.answer() {
         Answer::Address(address) => writeln!(out, "address {address:x}")?,
         Answer::Refused(number) => writeln!(out, "refused {number:x}")?,
         Answer::Fault(fault) => writeln!(

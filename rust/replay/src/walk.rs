@@ -223,7 +223,7 @@ fn page(level: u64) -> &'static str {
 
 /// How a translation ended.
 pub fn ending(view: &View, translation: &Translation) -> String {
-    match translation.answer {
+    match translation.answer() {
         Answer::Address(address) => format!("it reaches machine address {address:x}"),
         Answer::Refused(number) => format!("refused as {number:x}: {}", names::refusal(number)),
         Answer::Fault(fault) => format!(
