@@ -27,15 +27,15 @@ pub fn kind_of(n: u64) -> Kind
 pub fn hart_of(ws: &[u64]) -> Hart
     ensures { λ r. ⌜ r ≡ hartOf (now (ws .entry)) ⌝ }
 {
-    let mut regs = [0u64; 29];
     if ws.len() != 32 {
         return Hart {
             v: 0,
             privilege: 0,
             pc: 0,
-            regs,
+            regs: [0; 29],
         };
     }
+    let mut regs = [0u64; 29];
     let mut i: usize = 0;
     while i < 29 {
         regs[i] = ws[i + 3];

@@ -26,17 +26,14 @@ slice-relend-prefix-put-step : tie.Need-slice-relend-prefix-put-step
 slice-relend-prefix-put-step c = simp length-set (omega arith)
 
 slice-aggregate-put-step : tie.Need-slice-aggregate-put-step
-slice-aggregate-put-step c =
-    let a = c .before .before .before .before .before .args in
-    lent-length (now (a .out)) (a .a .value ∷ []) 34 (omega arith)
+slice-aggregate-put-step c = lent-length (now (c .before .before .before .before .before .args .out)) (_ ∷ []) 34 (omega arith)
 
 put-step-requires : tie.Need-put-step-requires
 put-step-requires c κs = search needs
 
 same-length : tie.Need-same-length
 same-length c =
-    let a = c .before .before .before .before .before .before .before .before .args in
-    grown-length (now (a .out)) (a .a .value ∷ []) 34 (c .before .before .put-step .last .1 .1 .0) (c .before .before .put-step .kept .1 .1 .0)
+    grown-length (now (c .before .before .before .before .before .before .before .before .args .out)) (_ ∷ []) 34 (c .before .before .put-step .last .1 .1 .0) (c .before .before .put-step .kept .1 .1 .0)
 
 returns-3 : tie.Need-returns-3
 unfolding accessWords

@@ -38,17 +38,14 @@ slice-relend-prefix-put-hart : tie.Need-slice-relend-prefix-put-hart
 slice-relend-prefix-put-hart c = simp length-set (omega arith)
 
 slice-aggregate-put-hart : tie.Need-slice-aggregate-put-hart
-slice-aggregate-put-hart c =
-    let o = c .before .outcome-words .result in
-    lent-length (now (c .before .before .before .before .before .before .args .out)) (getD o 0 0 ∷ getD o 1 0 ∷ []) 32 (omega arith)
+slice-aggregate-put-hart c = lent-length (now (c .before .before .before .before .before .before .args .out)) (_ ∷ _ ∷ []) 32 (omega arith)
 
 put-hart-requires : tie.Need-put-hart-requires
 put-hart-requires c κs = search needs
 
 same-length : tie.Need-same-length
 same-length c =
-    let o = c .before .before .before .before .outcome-words .result in
-    grown-length (now (c .before .before .before .before .before .before .before .before .before .args .out)) (getD o 0 0 ∷ getD o 1 0 ∷ []) 32 (c .before .before .put-hart .last .1 .1 .0) (c .before .before .put-hart .kept .1 .1 .0)
+    grown-length (now (c .before .before .before .before .before .before .before .before .before .args .out)) (_ ∷ _ ∷ []) 32 (c .before .before .put-hart .last .1 .1 .0) (c .before .before .put-hart .kept .1 .1 .0)
 
 returns-3 : tie.Need-returns-3
 unfolding stepWords
