@@ -1,8 +1,10 @@
 -- What a translation comes to: at once a refusal or a misalignment, else the walk. Assumes nothing.
-use mathlib.Core.Bool.{not}
+use mathlib.Core.Path.{_≡_}
+use mathlib.Core.Bool.{true, not}
 use mathlib.Core.List.{List}
 use Prim.Native.Nat.{ℕ}
 use lib.ListN.{length}
+use borrow.Author.Tests.{not-false}
 use Rattle.bits.proofs.Bools.{pick-both}
 use Rattle.hart.specs.declared.state.Hart.{Hart}
 use Rattle.hart.specs.Hart.{passes}
@@ -26,13 +28,13 @@ module _ (h : Hart) (base : ℕ) (bytes : List ℕ) (kind : Kind) (address width
   -- the answers that no walk gives
   pub data AtOnce : Answer → Type 0 where
     refused : (n : ℕ) → AtOnce (Answer.Refused n)
-    misaligned-by : AtOnce (Answer.Fault (misalignment (accessOf h kind address width)))
+    misaligned-by : passes h ≡ true → AtOnce (Answer.Fault (misalignment (accessOf h kind address width)))
 
   -- what holds of these and of the walk holds of every translation
-  pub each : (P : Translated → Type 0) → ((x : Answer) → AtOnce x → P (unwalked h x)) → (Aligned address width → P (walkedTo h ranOf)) → P (translated h base bytes kind address width)
+  pub each : (P : Translated → Type 0) → ((x : Answer) → AtOnce x → P (unwalked h x)) → (passes h ≡ true → Aligned address width → P (walkedTo h ranOf)) → P (translated h base bytes kind address width)
   unfolding translated
   each P u w =
       pick-both P (not (passes h)) _ _ (λ e. u (Answer.Refused 2) (refused 2))
-      (λ e. pick-both P (unfit base (length bytes)) _ _ (λ e. u (Answer.Refused 1) (refused 1))
+      (λ n. pick-both P (unfit base (length bytes)) _ _ (λ e. u (Answer.Refused 1) (refused 1))
       (λ e. pick-both P (unsupported kind address width) _ _ (λ e. u (Answer.Refused 3) (refused 3))
-      (λ p. pick-both P (misaligned kind address width) _ _ (λ e. u (Answer.Fault (misalignment (accessOf h kind address width))) misaligned-by) (λ q. w (aligned kind address width p q)))))
+      (λ p. pick-both P (misaligned kind address width) _ _ (λ e. u (Answer.Fault (misalignment (accessOf h kind address width))) (misaligned-by (not-false _ n))) (λ q. w (not-false _ n) (aligned kind address width p q)))))

@@ -1,4 +1,4 @@
--- "a trap request delivers the fault": what a translation answers as a fault is a request that can arise. Assumes nothing.
+-- "a trap request delivers the fault": what a translation answers as a fault is a request that is taken. Assumes nothing.
 use mathlib.Core.Path.{_≡_, refl, ap}
 use mathlib.Core.Bool.{Bool, true, false, _&&_, _||_, not}
 use mathlib.Core.List.{List}
@@ -12,7 +12,9 @@ use Rattle.exceptions.specs.declared.Exception.{Exception}
 use Rattle.privilege.specs.declared.mode.Context.{Context}
 use Rattle.traps.specs.Request.{impossible}
 use Rattle.hart.specs.declared.state.Hart.{Hart}
-use Rattle.hart.specs.Hart.{context}
+use Rattle.hart.specs.Hart.{context, passes}
+use Rattle.hart.specs.Event.{trapped, settled}
+use Rattle.hart.specs.Trap.{trap}
 use Rattle.rules.specs.declared.Access.{Access}
 use Rattle.rules.specs.declared.Guest.{Guest}
 use Rattle.rules.specs.declared.Kind.{Kind}
@@ -88,17 +90,29 @@ module _ (h : Hart) (kind : Kind) (address width : ℕ) where
       go false e on = let no : ⊥ = omega (arith, rw e at on) in absurd no
 
   module _ (base : ℕ) (bytes : List ℕ) where
-    -- what a translation answers as a fault can be delivered: it isn't refused as 4
-    pub fault-arises : (f : Exception) → translated h base bytes kind address width .answer ≡ Answer.Fault f → impossible (context h) f ≡ false
-    fault-arises f =
-        each h base bytes kind address width (λ (t : Translated). t .answer ≡ Answer.Fault f → impossible (context h) f ≡ false) at-once
-        (λ k. walked _ (every-fault (λ x. impossible (context h) x ≡ false) base (length bytes) a (can-access (context h) a from-guest) (can-page (context h) a from-guest)
-        (λ on. can-guest-page (context h) a (second-on on)) (λ on. can-entry (context h) a (second-on on)) (look base bytes) f))
+    -- a fault, and so a request, of a hart that passes check 2
+    record Arises (f : Exception) : Type 0 where
+      passing : passes h ≡ true
+      possible : impossible (context h) f ≡ false
+
+    arises : (f : Exception) → translated h base bytes kind address width .answer ≡ Answer.Fault f → Arises f
+    arises f =
+        each h base bytes kind address width (λ (t : Translated). t .answer ≡ Answer.Fault f → Arises f) at-once
+        (λ p k e. record {
+          passing = p;
+          possible = walked _ (every-fault (λ x. impossible (context h) x ≡ false) base (length bytes) a (can-access (context h) a from-guest) (can-page (context h) a from-guest)
+              (λ on. can-guest-page (context h) a (second-on on)) (λ on. can-entry (context h) a (second-on on)) (look base bytes) f) e;
+        })
       where
-        at-once : (x : Answer) → AtOnce h base bytes kind address width x → x ≡ Answer.Fault f → impossible (context h) f ≡ false
+        at-once : (x : Answer) → AtOnce h base bytes kind address width x → x ≡ Answer.Fault f → Arises f
         at-once x (refused n) e = clash (cc)
-        at-once x misaligned-by e = let q : misalignment a ≡ f = cc in rw (← q) (can-misalign (context h) a from-guest)
+        at-once x (misaligned-by p) e = let q : misalignment a ≡ f = cc in record { passing = p; possible = rw (← q) (can-misalign (context h) a from-guest) }
 
         walked : (o : Outcome Machine) → (o ≡ faults f → impossible (context h) f ≡ false) → answer o ≡ Answer.Fault f → impossible (context h) f ≡ false
         walked (yields m) k e = clash (cc)
         walked (faults x) k e = let q : x ≡ f = cc in k (ap faults q)
+
+    -- a trap request with the fault that a translation answers is taken: it is delivered, not refused
+    pub fault-taken : (f : Exception) → translated h base bytes kind address width .answer ≡ Answer.Fault f → trap h f ≡ trapped h f
+    unfolding trap settled
+    fault-taken f e = let k = arises f e in rw (k .passing, k .possible)

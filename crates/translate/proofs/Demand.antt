@@ -64,12 +64,12 @@ module _ (h : Hart) (base : ℕ) (bytes : List ℕ) (kind : Kind) (address width
 
   -- the hart is handed back as it was
   pub same-hart : t .hart ≡ h
-  same-hart = each h base bytes kind address width (λ (x : Translated). x .hart ≡ h) (λ x e. refl) (λ k. refl)
+  same-hart = each h base bytes kind address width (λ (x : Translated). x .hart ≡ h) (λ x e. refl) (λ p k. refl)
 
   -- a refusal leaves the hart as given and the list empty
   pub refusal-empty : (n : ℕ) → t .answer ≡ Answer.Refused n → t ≡ unwalked h (Answer.Refused n)
   refusal-empty n e =
-      each h base bytes kind address width (λ (x : Translated). x .answer ≡ Answer.Refused n → x ≡ unwalked h (Answer.Refused n)) (λ x u q. ap (unwalked h) q) (λ k q. never-refused (ran .end) n q) e
+      each h base bytes kind address width (λ (x : Translated). x .answer ≡ Answer.Refused n → x ≡ unwalked h (Answer.Refused n)) (λ x u q. ap (unwalked h) q) (λ p k q. never-refused (ran .end) n q) e
     where
       never-refused : {P : Type 0} (o : Outcome Machine) (n : ℕ) → answer o ≡ Answer.Refused n → P
       never-refused (yields m) n q = clash (cc)
@@ -77,7 +77,7 @@ module _ (h : Hart) (base : ℕ) (bytes : List ℕ) (kind : Kind) (address width
 
   -- n first-stage levels over m second-stage levels: at most (n + 1) (m + 1) - 1 reads; a stage that is off has none
   pub count-bound : t .count ≤ a .first .levels * suc (a .second .levels) + a .second .levels
-  count-bound = each h base bytes kind address width (λ (x : Translated). x .count ≤ a .first .levels * suc (a .second .levels) + a .second .levels) (λ x e. omega arith) (λ k. at-most a base (length bytes) (look base bytes))
+  count-bound = each h base bytes kind address width (λ (x : Translated). x .count ≤ a .first .levels * suc (a .second .levels) + a .second .levels) (λ x e. omega arith) (λ p k. at-most a base (length bytes) (look base bytes))
 
   pub both-stages : t .count ≤ 15
   both-stages =
@@ -96,7 +96,7 @@ module _ (h : Hart) (base : ℕ) (bytes : List ℕ) (kind : Kind) (address width
 
   -- the places beyond the count are zero
   pub beyond-count : drop (t .count) (t .reads) ≡ unused (places - t .count)
-  beyond-count = each h base bytes kind address width (λ (x : Translated). drop (x .count) (x .reads) ≡ unused (places - x .count)) (λ x e. refl) (λ k. drop-append-seam (ran .reads) (unused (places - length (ran .reads))))
+  beyond-count = each h base bytes kind address width (λ (x : Translated). drop (x .count) (x .reads) ≡ unused (places - x .count)) (λ x e. refl) (λ p k. drop-append-seam (ran .reads) (unused (places - length (ran .reads))))
 
   -- ---- with the second stage on
 
@@ -106,19 +106,19 @@ module _ (h : Hart) (base : ℕ) (bytes : List ℕ) (kind : Kind) (address width
     unfolding accessOf
     guest-entries earlier x later e one =
         each h base bytes kind address width (λ (r : Translated). listed r ≡ earlier ++ (x ∷ later) → EndsThrough (a .second) entryNeed earlier (x .address) 8) (λ y u q. not-empty earlier x later q)
-        (λ k q. guest-entry (look base bytes) base (length bytes) a on (k .k) (k .small) (k .multiple) earlier x later (sym (listed-walk h ran) ∙ q) one) e
+        (λ p k q. guest-entry (look base bytes) base (length bytes) a on (k .k) (k .small) (k .multiple) earlier x later (sym (listed-walk h ran) ∙ q) one) e
 
     -- the bytes of the access at an address answered lie on a page that the second-stage walk ending the list let through with its own right and U
     pub answer-let-through : (m : Machine) → t .answer ≡ Answer.Address m → EndsThrough (a .second) (secondNeed a) (listed t) m width
     unfolding accessOf
     answer-let-through m e =
         each h base bytes kind address width (λ (r : Translated). r .answer ≡ Answer.Address m → EndsThrough (a .second) (secondNeed a) (listed r) m width) at-once
-        (λ k q. rw (listed-walk h ran)
+        (λ p k q. rw (listed-walk h ran)
         (subst (λ (n : ℕ). EndsThrough (a .second) (secondNeed a) (ran .reads) m n) (sym (k .size)) (answer-page (look base bytes) base (length bytes) a on (k .k) (k .small) (k .multiple) m (address-yielded (ran .end) m q)))) e
       where
         at-once : (x : Answer) → AtOnce h base bytes kind address width x → x ≡ Answer.Address m → EndsThrough (a .second) (secondNeed a) (listed (unwalked h x)) m width
         at-once x (refused n) q = clash (cc)
-        at-once x misaligned-by q = clash (cc)
+        at-once x (misaligned-by p) q = clash (cc)
 
 -- two images of one base and length that agree on the entries listed for one of them give the same answer and list
 pub same-image : (h : Hart) (base : ℕ) (s s′ : List ℕ) (kind : Kind) (address width : ℕ) → length s ≡ length s′
