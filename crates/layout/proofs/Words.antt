@@ -24,14 +24,6 @@ sets-all ws out e =
     let n : length out ≤ 0 + length ws = omega arith in
     sets-eq ws out 0 h ∙ ap (λ (r : List ℕ). ws ++ r) (drop-of-length-le out n) ∙ append-nil ws
 
-sets-append : (xs ys out : List ℕ) (i j : ℕ) → i + length xs ≡ j → sets out i (xs ++ ys) ≡ sets (sets out i xs) j ys
-sets-append [] ys out i j e = let k : i ≡ j = omega arith in rw k
-sets-append (x ∷ xs) ys out i j e = sets-append xs ys (set out i x) (suc i) j (omega arith)
-
--- some words and then others
-filled : (ws rest out : List ℕ) (n : ℕ) → length ws ≡ n → length out ≡ length (ws ++ rest) → sets (sets out 0 ws) n rest ≡ ws ++ rest
-filled ws rest out n e f = sym (sets-append ws rest out 0 n (omega arith)) ∙ sets-all (ws ++ rest) out f
-
 -- one word copied: what is left to copy
 pub copied : (out ws whole : List ℕ) (i j i′ j′ : ℕ) → i < length ws → i′ ≡ suc i → j′ ≡ suc j → sets out j (drop i ws) ≡ whole → sets (set out j (getD ws i 0)) j′ (drop i′ ws) ≡ whole
 copied out ws whole i j i′ j′ h p q e = rw (p, q) (rw (drop-cons ws i 0 h) at e)
@@ -99,8 +91,19 @@ pub length-readWords : (rs : List Read) → length (readWords rs) ≡ 4 * length
 length-readWords [] = refl
 length-readWords (r ∷ rs) = omega (arith, length-readWords rs)
 
--- the answer and the count, and then the list
-pub translation-written : (a : Answer) (count : ℕ) (rs : List Read) (out : List ℕ) → length rs ≡ 15 → length out ≡ 67 → sets (sets out 0 (getD (answerWords a) 0 0 ∷ getD (answerWords a) 1 0 ∷ getD (answerWords a) 2 0 ∷ getD (answerWords a) 3 0 ∷ getD (answerWords a) 4 0 ∷ getD (answerWords a) 5 0 ∷ count ∷ [])) 7 (readWords rs) ≡ answerWords a ++ (count ∷ readWords rs)
-translation-written (Answer.Address m) count rs out n e = filled (0 ∷ m .0 ∷ 0 ∷ 0 ∷ 0 ∷ 0 ∷ count ∷ []) (readWords rs) out 7 refl (omega (arith, length-readWords rs))
-translation-written (Answer.Refused number) count rs out n e = filled (1 ∷ number ∷ 0 ∷ 0 ∷ 0 ∷ 0 ∷ count ∷ []) (readWords rs) out 7 refl (omega (arith, length-readWords rs))
-translation-written (Answer.Fault f) count rs out n e = filled (2 ∷ f .cause ∷ f .value ∷ f .second ∷ f .word ∷ pick (f .flag) 1 0 ∷ count ∷ []) (readWords rs) out 7 refl (omega (arith, length-readWords rs))
+-- the list written after the first seven words
+pub reads-written : (rs : List Read) (out : List ℕ) → length rs ≡ 15 → length out ≡ 67 → sets out 7 (readWords rs) ≡ take 7 out ++ readWords rs
+reads-written rs out n e =
+    let l : length (readWords rs) ≡ 60 = omega (arith, length-readWords rs) in
+    let h : 7 + length (readWords rs) ≤ length out = omega arith in
+    let past : length out ≤ 7 + length (readWords rs) = omega arith in
+    sets-eq (readWords rs) out 7 h ∙ ap (λ (r : List ℕ). take 7 out ++ readWords rs ++ r) (drop-of-length-le out past) ∙ append-nil (take 7 out ++ readWords rs)
+
+-- the answer and the count, before what follows
+first-seven : (out : List ℕ) (w₀ w₁ w₂ w₃ w₄ w₅ w₆ : ℕ) → 7 ≤ length out → take 7 (sets out 0 (w₀ ∷ w₁ ∷ w₂ ∷ w₃ ∷ w₄ ∷ w₅ ∷ w₆ ∷ [])) ≡ w₀ ∷ w₁ ∷ w₂ ∷ w₃ ∷ w₄ ∷ w₅ ∷ w₆ ∷ []
+first-seven out w₀ w₁ w₂ w₃ w₄ w₅ w₆ h = ap (take 7) (sets-eq (w₀ ∷ w₁ ∷ w₂ ∷ w₃ ∷ w₄ ∷ w₅ ∷ w₆ ∷ []) out 0 h)
+
+pub translation-written : (a : Answer) (count : ℕ) (rs : List Read) (out : List ℕ) → length out ≡ 67 → take 7 (sets out 0 (getD (answerWords a) 0 0 ∷ getD (answerWords a) 1 0 ∷ getD (answerWords a) 2 0 ∷ getD (answerWords a) 3 0 ∷ getD (answerWords a) 4 0 ∷ getD (answerWords a) 5 0 ∷ count ∷ [])) ++ readWords rs ≡ answerWords a ++ (count ∷ readWords rs)
+translation-written (Answer.Address m) count rs out e = ap (λ (l : List ℕ). l ++ readWords rs) (first-seven out 0 (m .0) 0 0 0 0 count (omega arith))
+translation-written (Answer.Refused number) count rs out e = ap (λ (l : List ℕ). l ++ readWords rs) (first-seven out 1 number 0 0 0 0 count (omega arith))
+translation-written (Answer.Fault f) count rs out e = ap (λ (l : List ℕ). l ++ readWords rs) (first-seven out 2 (f .cause) (f .value) (f .second) (f .word) (pick (f .flag) 1 0) count (omega arith))

@@ -1,6 +1,8 @@
 // The word layout, in and out: a hart is read out of a slice, and results are written into one.
 ghost use mathlib.Core.Path.{_≡_};
-ghost use Rattle.layout.specs.Layout.{words, hartOf, outcomeWords, stepWords, accessWords, answerWords, translationWords};
+ghost use mathlib.Core.List.{_++_};
+ghost use lib.ListN.{length, take};
+ghost use Rattle.layout.specs.Layout.{words, hartOf, outcomeWords, stepWords, accessWords, answerWords, readWords, translationWords};
 ghost use Rattle.layout.specs.Taken.{kindOf, put, putKind};
 use hart::access::Accessed;
 use hart::event::Outcome;
@@ -9,6 +11,7 @@ use hart::state::Hart;
 use rules::Kind;
 use translate::Answer;
 use translate::Translated;
+use walk::Read;
 
 // The kind of access with a number.
 pub fn kind_of(n: u64) -> Kind
@@ -135,6 +138,24 @@ fn answer_words(a: Answer) -> [u64; 6]
     }
 }
 
+// The list's places, after the first seven words.
+fn put_reads(reads: [Read; 15], out: &mut [u64])
+    requires { ⌜ length (now out) ≡ 67 ⌝ }
+    ensures { λ _. ⌜ now (out .exit) ≡ take 7 (now (out .entry)) ++ readWords reads ⌝ }
+{
+    let mut i: usize = 0;
+    while i < 15 {
+        let r = reads[i];
+        let address = r.address;
+        let at = 7 + 4 * i;
+        out[at] = r.stage;
+        out[at + 1] = r.level;
+        out[at + 2] = address.0;
+        out[at + 3] = r.value;
+        i += 1;
+    }
+}
+
 // A translation's result; 2, and nothing is written, where no kind of access has the number.
 pub fn put_translation(t: Translated, given: usize, kind: u64, out: &mut [u64]) -> u64
     ensures { λ r. ⌜ (r, now (out .exit)) ≡ putKind given 67 kind (now (out .entry)) (translationWords t) ⌝ }
@@ -158,16 +179,6 @@ pub fn put_translation(t: Translated, given: usize, kind: u64, out: &mut [u64]) 
     out[4] = a[4];
     out[5] = a[5];
     out[6] = t.count as u64;
-    let mut i: usize = 0;
-    while i < 15 {
-        let r = reads[i];
-        let address = r.address;
-        let at = 7 + 4 * i;
-        out[at] = r.stage;
-        out[at + 1] = r.level;
-        out[at + 2] = address.0;
-        out[at + 3] = r.value;
-        i += 1;
-    }
+    put_reads(reads, &mut *out);
     0
 }
