@@ -28,6 +28,13 @@ faultAt a left g = pick (eqb left 0) (guestPageFault a g) (entryFault a g)
 abbrev pub second-at : Access → ℕ → Guest → Translation Machine
 second-at a left g = second-of a (needAt a left) (faultAt a left g) g
 
+-- what the stage of a place needs of a leaf, and the address that it translates
+abbrev pub needOf : Access → Place → Need
+needOf a p = pick (p .second) (needAt a (p .left)) (firstNeed a)
+
+abbrev pub addressOf : Access → Place → ℕ
+addressOf a p = pick (p .second) (p .guest .0) (a .address)
+
 -- where a pointer at a level leads
 unfoldable pub below : {A : Type 0} → Translation A → ℕ → ℕ → Walk (Outcome A)
 below t zero table = done (faults (t .fault))

@@ -3,10 +3,12 @@ ghost use mathlib.Core.Path.{_≡_};
 ghost use mathlib.Core.Bool.{true};
 ghost use Prim.Native.Nat.{_+_, _-_, _*_, _≤_, _<_};
 ghost use lib.ListN.{length};
+ghost use Rattle.rules.specs.Entry.{judged};
+ghost use Rattle.rules.specs.Faults.{firstNeed};
 ghost use Rattle.walk.specs.Tree.{run};
 ghost use Rattle.walk.specs.Stages.{look, walkOf, onward, last};
 ghost use Rattle.walk.specs.Listed.{walked, reached};
-ghost use Rattle.walk.specs.Place.{needAt, faultAt, arrived, entered, outcome, secondAfter, firstAfter, after, Tables, Sound, Leads};
+ghost use Rattle.walk.specs.Place.{needAt, faultAt, needOf, addressOf, arrived, entered, outcome, secondAfter, firstAfter, after, Tables, Sound, Leads};
 use bits::select;
 use exceptions::Exception;
 use image::Entry;
@@ -53,14 +55,25 @@ pub enum Next {
     Ended(Reached),
 }
 
-// What the second stage needs of a leaf.
-fn need(a: Access, left: u64) -> Need
-    ensures { λ r. ⌜ r ≡ needAt a left ⌝ }
+// What the stage of a place needs of a leaf.
+fn need(a: Access, p: Place) -> Need
+    ensures { λ r. ⌜ r ≡ needOf a p ⌝ }
 {
-    if left == 0 {
+    if !p.second {
+        return a.first_need();
+    }
+    if p.left == 0 {
         return a.second_need();
     }
     rules::entry_need()
+}
+
+// The address that the stage of a place translates.
+fn translated(a: Access, p: Place) -> u64
+    ensures { λ r. ⌜ r ≡ addressOf a p ⌝ }
+{
+    let guest = p.guest;
+    select(p.second, guest.0, a.address)
 }
 
 // What the second stage raises.
@@ -135,15 +148,15 @@ fn enter(base: u64, len: u64, a: Access, left: u64, guest: Guest) -> Next
 }
 
 // On from a second-stage entry.
-fn second_step(base: u64, len: u64, a: Access, p: Place, e: u64) -> Next
-    requires { ⌜ Tables a × (p .level < a .second .levels) × (p .left ≤ a .first .levels) ⌝ }
+fn second_step(base: u64, len: u64, a: Access, p: Place, e: u64, v: Verdict) -> Next
+    requires { ⌜ Tables a × (p .level < a .second .levels) × (p .left ≤ a .first .levels) × (v ≡ judged (needAt a (p .left)) (p .level) (p .guest .0) e) ⌝ }
     ensures { λ r. ⌜ Leads base len a (secondAfter base len a p e) r ⌝ }
 {
     let level = p.level;
     let left = p.left;
     let guest = p.guest;
     let address = guest.0;
-    match need(a, left).judge(level, address, e) {
+    match v {
         Verdict::Bad => arrive(
             base,
             len,
@@ -164,12 +177,12 @@ fn second_step(base: u64, len: u64, a: Access, p: Place, e: u64) -> Next
 }
 
 // On from a first-stage entry.
-fn first_step(base: u64, len: u64, a: Access, level: u64, e: u64) -> Next
-    requires { ⌜ Tables a × (level < a .first .levels) ⌝ }
+fn first_step(base: u64, len: u64, a: Access, level: u64, e: u64, v: Verdict) -> Next
+    requires { ⌜ Tables a × (level < a .first .levels) × (v ≡ judged (firstNeed a) level (a .address) e) ⌝ }
     ensures { λ r. ⌜ Leads base len a (firstAfter base len a level e) r ⌝ }
 {
     let address = a.address;
-    match a.first_need().judge(level, address, e) {
+    match v {
         Verdict::Bad => Next::Ended(Reached::Failed(a.page_fault())),
         Verdict::Leaf(x) => enter(base, len, a, 0, Guest(x)),
         Verdict::Pointer(table) => {
@@ -189,10 +202,11 @@ fn step(base: u64, len: u64, a: Access, p: Place, e: u64) -> Next
     requires { ⌜ Tables a × Sound a p ⌝ }
     ensures { λ r. ⌜ Leads base len a (after base len a p e) r ⌝ }
 {
+    let v = need(a, p).judge(p.level, translated(a, p), e);
     if p.second {
-        return second_step(base, len, a, p, e);
+        return second_step(base, len, a, p, e, v);
     }
-    first_step(base, len, a, p.level, e)
+    first_step(base, len, a, p.level, e, v)
 }
 
 // The first place of a walk.
