@@ -4,7 +4,6 @@
 #![allow(unsafe_code)]
 
 use crate::translation::{Image, Read};
-use std::mem::MaybeUninit;
 
 /// How many registers the table has.
 pub const REGISTERS: usize = 29;
@@ -122,19 +121,20 @@ pub fn passes(hart: &HartWords) -> bool {
     out[0] == 1
 }
 
-/// The translation of an access; kind 0 is a fetch, 1 a load, 2 a store.
+/// The translation of an access, written into the words lent; kind 0 is a fetch, 1 a load, 2 a store.
 #[inline]
-pub fn translate(
+pub fn translate_into(
     hart: &HartWords,
     image: Image<'_>,
     kind: u64,
     address: u64,
     width: u64,
-) -> TranslationWords {
-    let mut out = MaybeUninit::<TranslationWords>::uninit();
-    // SAFETY: hart, the bytes and out are lent for the call, each with its own length; out is a new local, so it overlaps neither.
-    // It has room for 67 words, by its layout and the assertion on its size.
-    let code = unsafe {
+    out: &mut TranslationWords,
+) {
+    let words: *mut TranslationWords = out;
+    // SAFETY: hart, the bytes and out are lent for the call, each with its own length; out is lent mutably, so it overlaps neither.
+    // It is 67 words by its layout and the assertion on its size, and any words are a value of it.
+    unsafe {
         balcumentri_translate(
             hart.as_ptr(),
             hart.len(),
@@ -144,15 +144,10 @@ pub fn translate(
             kind,
             address,
             width,
-            out.as_mut_ptr().cast(),
+            words.cast(),
             TRANSLATION_WORDS,
         )
     };
-    if code != 0 {
-        return TranslationWords::default();
-    }
-    // SAFETY: a call that returns 0 has written all 67 words, and any words are a value of the type.
-    unsafe { out.assume_init() }
 }
 
 /// Reads a register.

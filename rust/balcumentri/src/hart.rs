@@ -98,18 +98,27 @@ impl Hart {
     /// The translation of an access over an image.
     #[inline]
     pub fn translate(&self, image: Image<'_>, access: Access) -> Translation {
+        let mut translation = Translation::default();
+        self.translate_into(image, access, &mut translation);
+        translation
+    }
+
+    /// The same, written over a translation that the caller keeps: for many in a row, since nothing is copied.
+    #[inline]
+    pub fn translate_into(&self, image: Image<'_>, access: Access, out: &mut Translation) {
         let Access {
             kind,
             address,
             width,
         } = access;
-        Translation(ffi::translate(
+        ffi::translate_into(
             &self.words,
             image,
             kind.number(),
             address,
             width,
-        ))
+            &mut out.0,
+        );
     }
 
     /// Reads the register with a number.

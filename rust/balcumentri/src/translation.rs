@@ -73,8 +73,8 @@ pub struct Read {
     pub value: u64,
 }
 
-/// A translation: the answer, and the entries read for it.
-#[derive(Clone, Copy, Debug)]
+/// A translation: the answer, and the entries read for it. The default one has address 0 and no entry.
+#[derive(Clone, Copy, Debug, Default)]
 pub struct Translation(pub(crate) TranslationWords);
 
 impl Translation {

@@ -42,18 +42,18 @@ fn run(rounds: usize) -> Result<(), String> {
         "{inputs} translations: all sides give the same answers and lists. Now timed in {rounds} alternating rounds: nanoseconds for"
     ))?;
     say("one (median of the rounds, least in brackets), millions in a second, and the time over plain Rust's of the same round")?;
-    say("(median). The C call is the proved library without its Rust wrapper.\n")?;
+    say("(median). The proved library writes over a translation that is kept, or gives one by value, which is copied.\n")?;
     say(&format!(
         "{:<18} {:>5}  {:>22}  {:>22}  {:>22}  {:>6} {:>6}",
-        "walk", "reads", "plain Rust", "proved library", "C call alone", "ratio", "C call"
+        "walk", "reads", "plain Rust", "proved library", "proved, by value", "ratio", "value"
     ))?;
     let mut timed = 0.0;
     for (case, prepared) in cases.iter().zip(&prepared) {
-        let ([plain, proved, call], translations) = measure(case, prepared, rounds);
+        let ([plain, proved, value], translations) = measure(case, prepared, rounds);
         timed += translations;
         say(&format!(
-            "{:<18} {:>5}  {plain}  {proved}  {call}  {:>6.2} {:>6.2}",
-            case.name, case.reads, proved.ratio, call.ratio,
+            "{:<18} {:>5}  {plain}  {proved}  {value}  {:>6.2} {:>6.2}",
+            case.name, case.reads, proved.ratio, value.ratio,
         ))?;
     }
     say(&format!("\n{:.0} million translations timed", timed / 1e6))

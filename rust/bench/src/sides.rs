@@ -12,14 +12,14 @@ use std::time::{Duration, Instant};
 pub enum Side {
     /// Plain Rust.
     Plain,
-    /// The proved library through the wrapper.
+    /// The proved library, written over a translation that is kept.
     Proved,
-    /// The proved library's C call alone.
-    Call,
+    /// The proved library, with a translation by value.
+    ByValue,
 }
 
 /// All sides.
-pub const SIDES: [Side; 3] = [Side::Plain, Side::Proved, Side::Call];
+pub const SIDES: [Side; 3] = [Side::Plain, Side::Proved, Side::ByValue];
 
 /// A case with its hart in each side's form.
 pub struct Prepared<'a> {
@@ -66,16 +66,16 @@ impl<'a> Prepared<'a> {
                 Side::Plain => self.each(|image, access| {
                     black_box(&plain::translate(black_box(&self.plain), image, access));
                 }),
-                Side::Proved => self.each(|image, access| {
-                    black_box(&black_box(&self.case.hart).translate(image, access));
-                }),
-                Side::Call => {
-                    let mut out = [0; 67];
+                Side::Proved => {
+                    let mut kept = Translation::default();
                     self.each(|image, access| {
-                        call::translate(black_box(&self.words), image, access, &mut out);
-                        black_box(&out);
+                        black_box(&self.case.hart).translate_into(image, access, &mut kept);
+                        black_box(&kept);
                     });
                 }
+                Side::ByValue => self.each(|image, access| {
+                    black_box(&black_box(&self.case.hart).translate(image, access));
+                }),
             }
         }
         begin.elapsed()
