@@ -1,12 +1,12 @@
 -- What an access that was not refused has, and what a walk's result makes of the answer. Assumes nothing.
-use mathlib.Core.Path.{_≡_, refl, sym}
+use mathlib.Core.Path.{_≡_, refl, sym, subst}
 use mathlib.Core.Bool.{Bool, true, false, _||_, not}
 use mathlib.Core.List.{List}
-use Prim.Native.Nat.{ℕ, zero, suc, _%_, _^_, _<_, _≤_}
+use Prim.Native.Nat.{ℕ, _%_, _^_, _<_, _≤_}
 use native.Mathlib.Omega.{arith}
 use lib.Dec.{eqb}
 use lib.ListN.{length}
-use borrow.Author.Tests.{eqb-true}
+use borrow.Author.Tests.{eqb-true, not-false}
 use Rattle.bits.specs.Field.{pick, get}
 use Rattle.bits.proofs.Bools.{clash, pick-both, or-left, or-right}
 use Rattle.bits.proofs.Fields.{get-lt}
@@ -33,13 +33,27 @@ use Rattle.translate.specs.Effective.{effective, root, off, firstRoot, s
 use Rattle.translate.specs.declared.Stop.{Stop}
 use Rattle.translate.specs.declared.Stop.the-variants.{Refused, Misaligned, Walks}
 use Rattle.translate.specs.Stop.{stopOf, walks, onlyIf, answerOf}
-use Rattle.translate.specs.Translated.{unsupported, misaligned, answer, unwalked, walkedTo, translated}
+use Rattle.translate.specs.Translated.{known, unsupported, misaligned, answer, unwalked, walkedTo, translated}
 
--- an access that is not refused has a width
-pub some-width : (kind : Kind) (address width : ℕ) → unsupported kind address width ≡ false → 0 < width
+-- an access that is not refused has a known width
+pub known-width : (kind : Kind) (address width : ℕ) → unsupported kind address width ≡ false → known width ≡ true
 unfolding unsupported
-some-width kind address zero h = clash (sym h)
-some-width kind address (suc w) h = omega arith
+known-width kind address width h = not-false (known width) (or-left (not (known width)) _ h)
+
+-- what holds of each width holds of a known one
+each-width : (P : ℕ → Type 0) → P 1 → P 2 → P 4 → P 8 → (width : ℕ) → known width ≡ true → P width
+each-width P one two four eight width h = go (eqb width 1) (eqb width 2) (eqb width 4) (eqb width 8) refl refl refl refl h
+  where
+    go : (a b c d : Bool) → eqb width 1 ≡ a → eqb width 2 ≡ b → eqb width 4 ≡ c → eqb width 8 ≡ d → (a || b || c || d) ≡ true → P width
+    go true b c d e f g i q = subst P (sym (eqb-true width 1 e)) one
+    go false true c d e f g i q = subst P (sym (eqb-true width 2 f)) two
+    go false false true d e f g i q = subst P (sym (eqb-true width 4 g)) four
+    go false false false true e f g i q = subst P (sym (eqb-true width 8 i)) eight
+    go false false false false e f g i q = clash q
+
+-- the remainder by a known width, as the code takes it
+pub remainder : (address width : ℕ) → known width ≡ true → pick (eqb width 8) (address % 8) (pick (eqb width 4) (address % 4) (pick (eqb width 2) (address % 2) 0)) ≡ address % width
+remainder address = each-width (λ (w : ℕ). pick (eqb w 8) (address % 8) (pick (eqb w 4) (address % 4) (pick (eqb w 2) (address % 2) 0)) ≡ address % w) (omega arith) refl refl refl
 
 -- an access that is neither refused nor misaligned is of 2 ^ k bytes, from a multiple of them on
 pub record Aligned (address width : ℕ) : Type 0 where
@@ -48,34 +62,26 @@ pub record Aligned (address width : ℕ) : Type 0 where
   pub size : width ≡ 2 ^ k
   pub multiple : address % 2 ^ k ≡ 0
 
-not-false : (n m : ℕ) → not (eqb n m) ≡ false → n ≡ m
-not-false n m h = go (eqb n m) refl h
-  where
-    go : (b : Bool) → eqb n m ≡ b → not b ≡ false → n ≡ m
-    go true e q = eqb-true n m e
-    go false e q = clash (sym q)
+equal : (n m : ℕ) → not (eqb n m) ≡ false → n ≡ m
+equal n m h = eqb-true n m (not-false (eqb n m) h)
 
-a-power : (address width : ℕ) → not (eqb width 1 || eqb width 2 || eqb width 4 || eqb width 8) ≡ false → address % width ≡ 0 → Aligned address width
-a-power address width h multiple = go (eqb width 1) (eqb width 2) (eqb width 4) (eqb width 8) refl refl refl refl h
-  where
-    power : (k : ℕ) → k ≤ 12 → width ≡ 2 ^ k → Aligned address width
-    power k small size = record { k = k; small = small; size = size; multiple = rw size at multiple }
-
-    go : (a b c d : Bool) → eqb width 1 ≡ a → eqb width 2 ≡ b → eqb width 4 ≡ c → eqb width 8 ≡ d → not (a || b || c || d) ≡ false → Aligned address width
-    go true b c d e f g i q = power 0 (omega arith) (eqb-true width 1 e)
-    go false true c d e f g i q = power 1 (omega arith) (eqb-true width 2 f)
-    go false false true d e f g i q = power 2 (omega arith) (eqb-true width 4 g)
-    go false false false true e f g i q = power 3 (omega arith) (eqb-true width 8 i)
-    go false false false false e f g i q = clash (sym q)
+a-power : (address width : ℕ) → known width ≡ true → address % width ≡ 0 → Aligned address width
+a-power address =
+    each-width (λ (w : ℕ). address % w ≡ 0 → Aligned address w) (λ m. record { k = 0; small = omega arith; size = refl; multiple = m })
+    (λ m. record { k = 1; small = omega arith; size = refl; multiple = m }) (λ m. record { k = 2; small = omega arith; size = refl; multiple = m }) (λ m. record { k = 3; small = omega arith; size = refl; multiple = m })
 
 pub aligned : (kind : Kind) (address width : ℕ) → unsupported kind address width ≡ false → misaligned kind address width ≡ false → Aligned address width
 unfolding unsupported
 aligned Fetch address width h k =
-    let f = or-right (not (eqb width 1 || eqb width 2 || eqb width 4 || eqb width 8)) (not (eqb width 4) || not (eqb (address % 4) 0)) h in
-    let four : width ≡ 4 = not-false width 4 (or-left (not (eqb width 4)) (not (eqb (address % 4) 0)) f) in
-    record { k = 2; small = omega arith; size = four; multiple = not-false (address % 4) 0 (or-right (not (eqb width 4)) (not (eqb (address % 4) 0)) f) }
-aligned Load address width h k = a-power address width (or-left _ false h) (not-false (address % width) 0 k)
-aligned Store address width h k = a-power address width (or-left _ false h) (not-false (address % width) 0 k)
+    let f = or-right (not (known width)) (not (eqb width 4) || not (eqb (address % 4) 0)) h in
+    record {
+      k = 2;
+      small = omega arith;
+      size = equal width 4 (or-left (not (eqb width 4)) (not (eqb (address % 4) 0)) f);
+      multiple = equal (address % 4) 0 (or-right (not (eqb width 4)) (not (eqb (address % 4) 0)) f);
+    }
+aligned Load address width h k = a-power address width (known-width Load address width h) (equal (address % width) 0 k)
+aligned Store address width h k = a-power address width (known-width Store address width h) (equal (address % width) 0 k)
 
 -- tables of at most three levels
 pub record Three (r : Root) : Type 0 where

@@ -19,10 +19,14 @@ use Rattle.translate.specs.declared.Answer.{Answer}
 use Rattle.translate.specs.declared.Translated.{Translated}
 use Rattle.translate.specs.Effective.{accessOf}
 
+-- "width 1, 2, 4 or 8"
+abbrev pub known : ℕ → Bool
+known width = eqb width 1 || eqb width 2 || eqb width 4 || eqb width 8
+
 -- Refusal 3: "width not 1, 2, 4 or 8; a fetch whose width isn't 4 or whose address isn't a multiple of 4"
 unfoldable pub unsupported : Kind → ℕ → ℕ → Bool
 unsupported kind address width =
-    not (eqb width 1 || eqb width 2 || eqb width 4 || eqb width 8)
+    not (known width)
     || by kind (not (eqb width 4) || not (eqb (address % 4) 0)) false false
 
 -- "Misaligned load or store: 4 or 6, before all else."

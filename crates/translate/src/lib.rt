@@ -1,10 +1,11 @@
 // The translation of an access on a hart: refusals, misalignment, the effective mode and the walk.
 ghost use mathlib.Core.Path.{_≡_};
-ghost use Prim.Native.Nat.{_%_, _<_};
+ghost use mathlib.Core.Bool.{true};
+ghost use Prim.Native.Nat.{_%_};
 ghost use Rattle.walk.specs.Place.{outcome};
 ghost use Rattle.translate.specs.Effective.{effective, root, off, firstRoot, secondRoot, inMode, accessOf};
 ghost use Rattle.translate.specs.Stop.{stopOf, walks, onlyIf, answerOf};
-ghost use Rattle.translate.specs.Translated.{unsupported, misaligned, translated};
+ghost use Rattle.translate.specs.Translated.{known, unsupported, misaligned, translated};
 use exceptions::Exception;
 use hart::state::Hart;
 use registers::fields;
@@ -133,12 +134,14 @@ fn refused(kind: Kind, address: u64, width: u64) -> bool
     !known | kind.test(fetch, false, false)
 }
 
-// Whether a load or store is misaligned.
+// Whether a load or store of a known width is misaligned. The remainder is taken by each width, since a division is slow.
 fn is_misaligned(kind: Kind, address: u64, width: u64) -> bool
-    requires { ⌜ 0 < width ⌝ }
+    requires { ⌜ known width ≡ true ⌝ }
     ensures { λ r. ⌜ r ≡ misaligned kind address width ⌝ }
 {
-    let t = !(address % width == 0);
+    let of2 = bits::select(width == 2, address % 2, 0);
+    let of4 = bits::select(width == 4, address % 4, of2);
+    let t = !(bits::select(width == 8, address % 8, of4) == 0);
     kind.test(false, t, t)
 }
 

@@ -1,7 +1,7 @@
 use mathlib.Core.Path.{sym, ap, _∙_}
 use mathlib.Core.Bool.{not}
 use Rattle.translate.specs.Stop.{stopOf}
-use Rattle.translate.proofs.Accesses.{some-width}
+use Rattle.translate.proofs.Accesses.{known-width}
 use borrow.Author.Needs.{needs}
 use Rattle.translate.proofs.stops.Statement.{statement}
 use Rattle.translate.proofs.stops.Tie as tie
@@ -28,7 +28,7 @@ unfolding stopOf
 returns-3 c = rw (ap not (sym (c .before .before .before .before .before .passes .ensures)) ∙ c .before .before .before .before .if1 .left, sym (c .before .before .before .refused .ensures) ∙ c .before .before .if2 .left, sym (c .before .refused2 .ensures) ∙ c .if3 .taken)
 
 is-misaligned-requires : tie.Need-is-misaligned-requires
-is-misaligned-requires c κs = some-width _ _ _ (sym (c .before .refused2 .ensures) ∙ c .if3 .left)
+is-misaligned-requires c κs = known-width _ _ _ (sym (c .before .refused2 .ensures) ∙ c .if3 .left)
 
 returns-4 : tie.Need-returns-4
 unfolding stopOf
