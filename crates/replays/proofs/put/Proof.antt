@@ -3,8 +3,8 @@ use lib.ListN.{length, length-set}
 use native.Mathlib.Omega.{arith}
 use Prim.Native.Nat.{_≤_, _-_}
 use borrow.Author.Needs.{needs}
-use Rattle.replays.proofs.show.put.Statement.{statement}
-use Rattle.replays.proofs.show.put.Tie as tie
+use Rattle.replays.proofs.put.Statement.{statement}
+use Rattle.replays.proofs.put.Tie as tie
 
 abbrev Inv-loop : tie.InvT-loop
 Inv-loop image₀ at v i₀ image i = (i ≤ 8) × (length image ≡ length image₀)

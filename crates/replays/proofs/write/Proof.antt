@@ -1,7 +1,7 @@
 use Prim.Native.Nat.{_≤_, _-_}
 use borrow.Author.Needs.{needs}
-use Rattle.replays.proofs.show.write.Statement.{statement}
-use Rattle.replays.proofs.show.write.Tie as tie
+use Rattle.replays.proofs.write.Statement.{statement}
+use Rattle.replays.proofs.write.Tie as tie
 
 abbrev Inv-loop : tie.InvT-loop
 Inv-loop reads count i₀ i = i ≤ 15
