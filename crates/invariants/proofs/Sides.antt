@@ -1,14 +1,18 @@
 -- S and VS registers are never swapped: an event changes VS registers alone, or none of them. Assumes nothing.
 use mathlib.Core.Path.{_≡_, refl, ap}
-use mathlib.Core.Bool.{Bool, true, false, _&&_, not}
+use mathlib.Core.Bool.{Bool, true, false, _&&_, _||_, not}
 use mathlib.Core.Logic.{_⊎_, inl, inr}
 use Prim.Native.Nat.{ℕ}
-use lib.Dec.{leb}
+use lib.Dec.{eqb, leb}
 use lib.ListN.{getD, set}
 use lib.Seq.{getD-set-other}
+use borrow.Author.Tests.{eqb-true}
+use Rattle.bits.specs.Field.{pick, has}
+use Rattle.bits.proofs.Bools.{clash}
 use Rattle.registers.specs.Places.{vsstatus, vsatp, medeleg, hedeleg}
 use Rattle.registers.specs.Table.{at}
 use Rattle.exceptions.specs.declared.Exception.{Exception}
+use Rattle.privilege.specs.Mode.{isM}
 use Rattle.traps.specs.declared.Target.{Target}
 use Rattle.traps.specs.declared.Target.the-variants.{M, HS, VS}
 use Rattle.traps.specs.Delivery.{target}
@@ -36,6 +40,15 @@ OnlyIn inside h h′ = (p : ℕ) → inside p ≡ false → reg h′ p ≡ reg h
 
 abbrev pub OneSide : Hart → Hart → Type 0
 OneSide h h′ = OnlyIn guest h h′ ⊎ OnlyIn host h h′
+
+-- a trap goes to VS only from V=1
+pub only-from-guest : (h : Hart) (cause : ℕ) → target (context h) (reg h medeleg) (reg h hedeleg) cause ≡ VS → h .v ≡ 1
+only-from-guest h cause = go (isM (context h) || not (has cause (reg h medeleg))) (eqb (h .v) 1) refl (has cause (reg h hedeleg))
+  where
+    go : (m v : Bool) → eqb (h .v) 1 ≡ v → (d : Bool) → pick m M (pick (v && d) VS HS) ≡ VS → h .v ≡ 1
+    go true v e d q = clash (cc)
+    go false true e d q = eqb-true (h .v) 1 e
+    go false false e d q = clash (cc)
 
 -- a trap into VS changes VS registers alone, so nothing of HS or M, and V stays 1
 pub into-VS : (h : Hart) (t : Exception) → OnlyIn guest h (deliveredVS h t) × (deliveredVS h t .v ≡ 1)
