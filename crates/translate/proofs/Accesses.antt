@@ -27,9 +27,9 @@ use Rattle.walk.specs.Stages.{Outcome, yields, faults, look, begin, final, walk
 use Rattle.walk.specs.Listed.{reached, walked}
 use Rattle.walk.specs.Place.{outcome, Tables}
 use Rattle.translate.specs.declared.Answer.{Answer}
-use Rattle.translate.specs.declared.Mode.{Mode}
+use Rattle.effective.specs.declared.Mode.{Mode}
 use Rattle.translate.specs.declared.Translated.{Translated}
-use Rattle.translate.specs.Effective.{effective, root, off, firstRoot, secondRoot, accessOf}
+use Rattle.effective.specs.Effective.{effective, root, off, firstRoot, secondRoot, accessOf}
 use Rattle.translate.specs.declared.Stop.{Stop}
 use Rattle.translate.specs.declared.Stop.the-variants.{Refused, Misaligned, Walks}
 use Rattle.translate.specs.Stop.{stopOf, walks, onlyIf, answerOf}

@@ -16,7 +16,7 @@ use Rattle.walk.specs.Tree.{Ran, run}
 use Rattle.walk.specs.Stages.{Outcome, look, walkOf}
 use Rattle.translate.specs.declared.Answer.{Answer}
 use Rattle.translate.specs.declared.Translated.{Translated}
-use Rattle.translate.specs.Effective.{accessOf}
+use Rattle.effective.specs.Effective.{accessOf}
 use Rattle.translate.specs.Translated.{unsupported, misaligned, unwalked, walkedTo, translated}
 use Rattle.translate.proofs.Accesses.{Aligned, aligned}
 

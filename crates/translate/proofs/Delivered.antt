@@ -26,7 +26,7 @@ use Rattle.walk.specs.Stages.{Outcome, yields, faults, look}
 use Rattle.walk.proofs.Raised.{every-fault}
 use Rattle.translate.specs.declared.Answer.{Answer}
 use Rattle.translate.specs.declared.Translated.{Translated}
-use Rattle.translate.specs.Effective.{effective, accessOf, secondRoot}
+use Rattle.effective.specs.Effective.{effective, accessOf, secondRoot}
 use Rattle.translate.specs.Translated.{answer, translated}
 use Rattle.translate.proofs.Cases.{AtOnce, refused, misaligned-by, each}
 

@@ -26,7 +26,7 @@ use Rattle.walk.proofs.Images.{same-walk}
 use Rattle.walk.proofs.Guarded.{guest-entry, answer-page}
 use Rattle.translate.specs.declared.Answer.{Answer}
 use Rattle.translate.specs.declared.Translated.{Translated}
-use Rattle.translate.specs.Effective.{accessOf}
+use Rattle.effective.specs.Effective.{accessOf}
 use Rattle.translate.specs.Translated.{unsupported, misaligned, answer, unwalked, walkedTo, translated}
 use Rattle.translate.proofs.Accesses.{tables-of}
 use Rattle.translate.proofs.Cases.{ranOf, AtOnce, refused, misaligned-by, each}

@@ -1,3 +1,2 @@
-pub mod Effective
 pub mod Translated
 pub mod Stop

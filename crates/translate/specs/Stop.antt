@@ -13,7 +13,7 @@ use Rattle.walk.specs.Stages.{Outcome}
 use Rattle.translate.specs.declared.Answer.{Answer}
 use Rattle.translate.specs.declared.Stop.{Stop}
 use Rattle.translate.specs.declared.Stop.the-variants.{Refused, Misaligned, Walks}
-use Rattle.translate.specs.Effective.{off}
+use Rattle.effective.specs.Effective.{off}
 use Rattle.translate.specs.Translated.{unsupported, misaligned, answer}
 
 unfoldable pub stopOf : Hart → (base len : ℕ) → Kind → (address width : ℕ) → Stop

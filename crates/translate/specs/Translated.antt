@@ -17,7 +17,7 @@ use Rattle.walk.specs.Stages.{Outcome, yields, faults, look, walkOf}
 use Rattle.walk.specs.Listed.{places, unused, padded}
 use Rattle.translate.specs.declared.Answer.{Answer}
 use Rattle.translate.specs.declared.Translated.{Translated}
-use Rattle.translate.specs.Effective.{accessOf}
+use Rattle.effective.specs.Effective.{accessOf}
 
 -- "width 1, 2, 4 or 8"
 abbrev pub known : ℕ → Bool

@@ -12,7 +12,7 @@ use Rattle.rules.specs.declared.Access.{Access}
 use Rattle.rules.specs.declared.Kind.{Kind}
 use Rattle.rules.specs.declared.Root.{Root}
 use Rattle.rules.specs.Kind.{by}
-use Rattle.translate.specs.declared.Mode.{Mode}
+use Rattle.effective.specs.declared.Mode.{Mode}
 
 -- "in M with MPRV=1 a load or store uses MPP"
 abbrev pub usesMPP : Hart → Kind → Bool

@@ -1,9 +1,9 @@
 use mathlib.Core.Path.{ap, _∙_}
-use Rattle.translate.specs.Effective.{inMode, accessOf}
-use Rattle.translate.specs.declared.Mode.{Mode}
+use Rattle.effective.specs.Effective.{inMode, accessOf}
+use Rattle.effective.specs.declared.Mode.{Mode}
 use borrow.Author.Needs.{needs}
-use Rattle.translate.proofs.access.Statement.{statement}
-use Rattle.translate.proofs.access.Tie as tie
+use Rattle.effective.proofs.access.Statement.{statement}
+use Rattle.effective.proofs.access.Tie as tie
 
 effective-mode-requires : tie.Need-effective-mode-requires
 effective-mode-requires c κs = search needs

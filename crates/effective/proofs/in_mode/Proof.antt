@@ -1,6 +1,6 @@
 use borrow.Author.Needs.{needs}
-use Rattle.translate.proofs.in_mode.Statement.{statement}
-use Rattle.translate.proofs.in_mode.Tie as tie
+use Rattle.effective.proofs.in_mode.Statement.{statement}
+use Rattle.effective.proofs.in_mode.Tie as tie
 
 element-copy-out-status : tie.Need-element-copy-out-status
 element-copy-out-status c = search needs

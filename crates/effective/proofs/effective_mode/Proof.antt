@@ -1,9 +1,9 @@
 use mathlib.Core.Path.{_≡_}
 use mathlib.Core.Bool.{true, false}
-use Rattle.translate.specs.Effective.{usesMPP}
+use Rattle.effective.specs.Effective.{usesMPP}
 use borrow.Author.Needs.{needs}
-use Rattle.translate.proofs.effective_mode.Statement.{statement}
-use Rattle.translate.proofs.effective_mode.Tie as tie
+use Rattle.effective.proofs.effective_mode.Statement.{statement}
+use Rattle.effective.proofs.effective_mode.Tie as tie
 
 element-copy-out-status : tie.Need-element-copy-out-status
 element-copy-out-status c = search needs

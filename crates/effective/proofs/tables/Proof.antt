@@ -1,6 +1,6 @@
 use borrow.Author.Needs.{needs}
-use Rattle.translate.proofs.tables.Statement.{statement}
-use Rattle.translate.proofs.tables.Tie as tie
+use Rattle.effective.proofs.tables.Statement.{statement}
+use Rattle.effective.proofs.tables.Tie as tie
 
 get-requires : tie.Need-get-requires
 get-requires c κs = search needs

@@ -1,7 +1,7 @@
-use Rattle.translate.specs.Effective.{secondRoot}
+use Rattle.effective.specs.Effective.{secondRoot}
 use borrow.Author.Needs.{needs}
-use Rattle.translate.proofs.second.Statement.{statement}
-use Rattle.translate.proofs.second.Tie as tie
+use Rattle.effective.proofs.second.Statement.{statement}
+use Rattle.effective.proofs.second.Tie as tie
 
 element-copy-out-tables : tie.Need-element-copy-out-tables
 element-copy-out-tables c = search needs

@@ -1,8 +1,8 @@
 use borrow.Author.Tests.{eq-eqb, ne-eqb}
-use Rattle.translate.specs.Effective.{firstRoot}
+use Rattle.effective.specs.Effective.{firstRoot}
 use borrow.Author.Needs.{needs}
-use Rattle.translate.proofs.first.Statement.{statement}
-use Rattle.translate.proofs.first.Tie as tie
+use Rattle.effective.proofs.first.Statement.{statement}
+use Rattle.effective.proofs.first.Tie as tie
 
 element-copy-out-tables : tie.Need-element-copy-out-tables
 element-copy-out-tables c = search needs
