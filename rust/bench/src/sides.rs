@@ -67,7 +67,8 @@ impl<'a> Prepared<'a> {
                     black_box(&plain::translate(black_box(&self.plain), image, access));
                 }),
                 Side::Proved => {
-                    let mut kept = Translation::default();
+                    // on the heap, so that its place does not go by the frames of the calls
+                    let mut kept = Box::new(Translation::default());
                     self.each(|image, access| {
                         black_box(&self.case.hart).translate_into(image, access, &mut kept);
                         black_box(&kept);
