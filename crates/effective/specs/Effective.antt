@@ -29,9 +29,11 @@ effective h kind =
 abbrev pub levels : ℕ → ℕ
 levels x = pick (eqb (get MODE x) 8) 3 0
 
+-- "the table at its register's PPN"
 abbrev pub root : ℕ → Root
 root x = record { levels = levels x; ppn = get PPN x }
 
+-- a stage that is not walked
 abbrev pub off : Root
 off = record { levels = 0; ppn = 0 }
 
@@ -39,6 +41,7 @@ off = record { levels = 0; ppn = 0 }
 unfoldable pub firstRoot : Hart → Mode → Root
 firstRoot h m = pick (m .v) (root (reg h vsatp)) (pick (eqb (m .privilege) 3) off (root (reg h satp)))
 
+-- "V=1 walks vsatp, then hgatp": with V=0 there is no second stage
 unfoldable pub secondRoot : Hart → Mode → Root
 secondRoot h m = pick (m .v) (root (reg h hgatp)) off
 
@@ -46,6 +49,7 @@ secondRoot h m = pick (m .v) (root (reg h hgatp)) off
 abbrev pub ownStatus : Hart → Mode → ℕ
 ownStatus h m = pick (m .v) (reg h vsstatus) (reg h mstatus)
 
+-- the access as a mode makes it: user mode is privilege 0; "MXR is mstatus's only" at the second stage, so mmxr is kept apart
 abbrev pub inMode : Hart → Mode → Kind → ℕ → ℕ → Access
 inMode h m kind address width =
     record {
@@ -61,5 +65,6 @@ inMode h m kind address width =
       second = secondRoot h m;
     }
 
+-- "It is fed the hart, the image and the access": what it takes of the hart, by the effective mode
 unfoldable pub accessOf : Hart → Kind → ℕ → ℕ → Access
 accessOf h kind = inMode h (effective h kind) kind

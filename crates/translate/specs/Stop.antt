@@ -16,6 +16,7 @@ use Rattle.translate.specs.declared.Stop.the-variants.{Refused, Misalign
 use Rattle.effective.specs.Effective.{off}
 use Rattle.translate.specs.Translated.{unsupported, misaligned, answer}
 
+-- the refusals and misalignment in the order of `translated`
 unfoldable pub stopOf : Hart → (base len : ℕ) → Kind → (address width : ℕ) → Stop
 stopOf h base len kind address width =
     pick (not (passes h)) (Refused 2)
@@ -23,6 +24,7 @@ stopOf h base len kind address width =
     (pick (unsupported kind address width) (Refused 3)
     (pick (misaligned kind address width) Misaligned Walks)))
 
+-- whether there is a walk
 abbrev pub walks : Stop → Bool
 walks (Refused n) = false
 walks Misaligned = false
@@ -43,6 +45,7 @@ onlyIf goes a = record {
   second = pick goes (a .second) off;
 }
 
+-- the answer, from what it came to before the walk and what the walk came to
 abbrev pub answerOf : Stop → Access → Outcome Machine → Answer
 answerOf (Refused n) a o = Answer.Refused n
 answerOf Misaligned a o = Answer.Fault (misalignment a)

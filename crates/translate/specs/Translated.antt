@@ -42,6 +42,7 @@ answer (faults f) = Answer.Fault f
 abbrev pub unwalked : Hart → Answer → Translated
 unwalked h x = record { hart = h; answer = x; reads = unused places; count = 0 }
 
+-- the walk's answer and list, with their count
 abbrev pub walkedTo : Hart → Ran (Outcome Machine) → Translated
 walkedTo h r = record { hart = h; answer = answer (r .end); reads = padded places (r .reads); count = length (r .reads) }
 
