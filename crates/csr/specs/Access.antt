@@ -4,10 +4,10 @@ use Prim.Native.Nat.{ℕ, _+_, _-_}
 use lib.Bits.{bitAnd, bitOr}
 use lib.Dec.{eqb, ltb}
 use Rattle.bits.specs.Field.{pick, top}
-use Rattle.registers.specs.declared.table.Row.{Row}
+use Rattle.table.specs.declared.Row.{Row}
 use Rattle.registers.specs.Fields.{TVM, VTVM}
 use Rattle.registers.specs.Places.{sstatus, satp, mstatus, hgatp}
-use Rattle.registers.specs.Table.{supervisor, hypervisor, machine}
+use Rattle.registers.specs.Registers.{supervisor, hypervisor, machine}
 use Rattle.privilege.specs.declared.mode.Context.{Context}
 use Rattle.privilege.specs.declared.mode.Verdict.{Verdict}
 use Rattle.csr.specs.declared.Form.{Form}

@@ -4,15 +4,14 @@ ghost use Prim.Native.Nat.{_<_};
 ghost use Rattle.csr.specs.Access.{refusal, verdict, combined, reached, home};
 ghost use Rattle.bits.specs.Field.{pick};
 ghost use Rattle.registers.specs.Rules.{stored};
-ghost use Rattle.registers.specs.Table.{at};
+ghost use Rattle.registers.specs.Registers.{at};
 use privilege::mode::Context;
 use privilege::mode::Verdict;
 use registers::fields::TVM;
 use registers::fields::VTVM;
 use registers::places;
 use registers::rules;
-use registers::table;
-use registers::table::Row;
+use table::Row;
 
 pub enum Form {
     Read,

@@ -2,10 +2,11 @@
 use mathlib.Core.Path.{_≡_, ap}
 use Prim.Native.Nat.{ℕ}
 use lib.ListN.{getD, List·getD-map}
-use Rattle.registers.specs.Table.{register, registers, at, rowOf, table}
+use Rattle.registers.specs.Registers.{register, registers, at}
+use Rattle.table.specs.Table.{rowOf, table}
 use Rattle.registers.specs.Rules.{stores-nothing}
-use Rattle.registers.specs.declared.table.Row.{Row}
-use Rattle.registers.proofs.Search.{none}
+use Rattle.table.specs.declared.Row.{Row}
+use Rattle.table.proofs.Search.{none}
 
 -- the number in a row of the table
 pub number-at : (i : ℕ) → getD table i none .number ≡ at i .number

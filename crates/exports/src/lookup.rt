@@ -1,8 +1,7 @@
 // Registers by number and by place.
 ghost use mathlib.Core.Path.{_≡_};
 ghost use Rattle.exports.specs.Calls.{place, number};
-use registers::table;
-use registers::table::Found;
+use table::Found;
 
 // The place of the register with a number, or 29.
 #[no_mangle]
@@ -25,7 +24,7 @@ pub extern "C" fn balcumentri_number(place: u64) -> u64
         return 4096;
     }
     let i = place as usize;
-    let rows = table::TABLE;
+    let rows = table::rows();
     let row = rows[i];
     row.number
 }

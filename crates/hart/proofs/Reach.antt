@@ -15,7 +15,7 @@ use Rattle.bits.proofs.Bools.{and-right, split, pick-both}
 use Rattle.bits.proofs.Every.{every-any}
 use Rattle.registers.specs.Places.{sstatus, mstatus}
 use Rattle.registers.specs.Rules.{stores-nothing}
-use Rattle.registers.specs.Table.{supervisor, Register, register, registers, at}
+use Rattle.registers.specs.Registers.{supervisor, Register, register, registers, at}
 use Rattle.csr.specs.Access.{reached, home}
 
 pub home-bound : (place : ℕ) → place < 29 → home place < 29

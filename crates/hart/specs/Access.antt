@@ -6,13 +6,14 @@ use lib.Bits.{bitAnd}
 use lib.Dec.{eqb}
 use lib.ListN as list
 use Rattle.bits.specs.Field.{pick, bits}
-use Rattle.registers.specs.declared.table.Row.{Row}
-use Rattle.registers.specs.declared.table.Found.{Found}
-use Rattle.registers.specs.declared.table.Found.the-variants.{At, Nothing}
+use Rattle.table.specs.declared.Row.{Row}
+use Rattle.table.specs.declared.Found.{Found}
+use Rattle.table.specs.declared.Found.the-variants.{At, Nothing}
 use Rattle.registers.specs.Fields.{SIE, SPIE, SPP, SUM, MXR, UXL}
 use Rattle.registers.specs.Places.{sstatus, mstatus}
 use Rattle.registers.specs.Rules.{stored}
-use Rattle.registers.specs.Table.{at, table, firstAt}
+use Rattle.registers.specs.Registers.{at}
+use Rattle.table.specs.Table.{table, firstAt}
 use Rattle.privilege.specs.Mode.{verdict}
 use Rattle.csr.specs.declared.Form.{Form}
 use Rattle.csr.specs.declared.Form.the-variants.{Read, Write, Set, Clear}

@@ -9,7 +9,8 @@ use Rattle.traps.specs.declared.Target.{Target}
 use Rattle.traps.specs.declared.Target.the-variants.{M, HS, VS}
 use Rattle.traps.specs.Delivery.{target}
 use Rattle.hart.specs.declared.state.Hart.{Hart}
-use Rattle.hart.specs.Hart.{reg, Write, _↢_, _with_, context}
+use Rattle.registers.specs.File.{Write, _↢_, _with_}
+use Rattle.hart.specs.Hart.{reg, context}
 
 -- pc becomes the target's tvec without bits 1:0
 abbrev pub base : ℕ → ℕ

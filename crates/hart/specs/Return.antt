@@ -9,7 +9,8 @@ use Rattle.status.specs.Return.{vAfterMret, fromM, fromS, fromHS, fromH}
 use Rattle.privilege.specs.Instructions as instructions
 use Rattle.hart.specs.declared.state.Hart.{Hart}
 use Rattle.hart.specs.declared.event.Step.{Step}
-use Rattle.hart.specs.Hart.{reg, Write, _↢_, _with_, context}
+use Rattle.registers.specs.File.{Write, _↢_, _with_}
+use Rattle.hart.specs.Hart.{reg, context}
 use Rattle.hart.specs.Event.{done, settled}
 
 -- MRET: pc = mepc, privilege = MPP, V = MPV unless MPP=3 (then 0); mstatus

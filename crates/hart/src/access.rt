@@ -1,7 +1,8 @@
 // Register access: read, write, set and clear.
 ghost use mathlib.Core.Path.{_≡_};
 ghost use Prim.Native.Nat.{_<_};
-ghost use Rattle.registers.specs.Table.{at, rowOf};
+ghost use Rattle.registers.specs.Registers.{at};
+ghost use Rattle.table.specs.Table.{rowOf};
 ghost use Rattle.hart.specs.Access.{seen, written, valueOf, answer, accessRow, access, read, write, set, clear};
 use crate::event::Outcome;
 use crate::event::Step;
@@ -10,9 +11,8 @@ use csr::Form;
 use privilege::mode::Verdict;
 use registers::masks;
 use registers::places;
-use registers::table;
-use registers::table::Found;
-use registers::table::Row;
+use table::Found;
+use table::Row;
 
 // The value answered is the old one where the access was done, and 0 where it trapped or was refused.
 pub struct Accessed {

@@ -5,11 +5,12 @@ use Prim.Native.Nat.{ℕ, _<_}
 use lib.Dec.{eqb}
 use borrow.Author.Tests.{eqb-true, not-false}
 use Rattle.bits.proofs.Bools.{clash}
-use Rattle.registers.specs.declared.table.Row.{Row}
-use Rattle.registers.specs.declared.table.Found.{Found}
-use Rattle.registers.specs.declared.table.Found.the-variants.{At, Nothing}
-use Rattle.registers.specs.Table.{at, rowOf, table, firstAt}
-use Rattle.registers.proofs.Rows.{lookup-found}
+use Rattle.table.specs.declared.Row.{Row}
+use Rattle.table.specs.declared.Found.{Found}
+use Rattle.table.specs.declared.Found.the-variants.{At, Nothing}
+use Rattle.registers.specs.Registers.{at}
+use Rattle.table.specs.Table.{rowOf, table, firstAt}
+use Rattle.table.proofs.Listed.{lookup-found}
 use Rattle.privilege.specs.declared.mode.Verdict.{Verdict}
 use Rattle.exceptions.specs.declared.Exception.{Exception}
 use Rattle.privilege.specs.Mode.{isM}

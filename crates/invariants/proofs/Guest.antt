@@ -12,9 +12,10 @@ use Rattle.bits.proofs.Every.{every-at}
 use Rattle.registers.specs.Fields.{TVM, VTVM}
 use Rattle.registers.specs.Places.{satp, hgatp}
 use Rattle.registers.specs.Rules.{stores-nothing}
-use Rattle.registers.specs.declared.table.Found.{Found}
-use Rattle.registers.specs.declared.table.Found.the-variants.{At, Nothing}
-use Rattle.registers.specs.Table.{hypervisor, machine, Register, register, registers, at, rowOf, table, firstAt}
+use Rattle.table.specs.declared.Found.{Found}
+use Rattle.table.specs.declared.Found.the-variants.{At, Nothing}
+use Rattle.registers.specs.Registers.{hypervisor, machine, Register, register, registers, at}
+use Rattle.table.specs.Table.{rowOf, table, firstAt}
 use Rattle.privilege.specs.Mode.{isU, isHS, isVU, isVS, isSet}
 use Rattle.csr.specs.Access as csr
 use Rattle.privilege.specs.declared.mode.Verdict.{Verdict}

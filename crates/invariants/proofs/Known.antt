@@ -10,12 +10,13 @@ use Rattle.bits.specs.Every.{every}
 use Rattle.registers.specs.Fields.{MPP, MPV}
 use Rattle.registers.specs.Places.{mstatus}
 use Rattle.registers.specs.Rules.{legal, stored}
-use Rattle.registers.specs.Table.{firstAt}
+use Rattle.table.specs.Table.{firstAt}
 use Rattle.hart.specs.declared.state.Hart.{Hart}
 use Rattle.hart.specs.declared.event.Outcome as event
 use Rattle.hart.specs.declared.event.Outcome.the-variants.{Done, Trapped, Refused}
 use Rattle.hart.specs.declared.access.Accessed.{Accessed}
-use Rattle.hart.specs.Hart.{reg, _↢_, _with_, reset, registersPass, passes}
+use Rattle.registers.specs.File.{_↢_, _with_, registersPass}
+use Rattle.hart.specs.Hart.{reg, reset, passes}
 use Rattle.hart.specs.Deliver.{deliveredM, deliveredHS, deliveredVS, delivered}
 use Rattle.hart.specs.Event.{settled}
 use Rattle.hart.specs.Return.{returnedM, mret}

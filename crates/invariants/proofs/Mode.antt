@@ -11,7 +11,8 @@ use Rattle.registers.specs.Fields.{MPRV}
 use Rattle.registers.specs.Places.{mstatus}
 use Rattle.privilege.specs.Mode.{isM, isSet}
 use Rattle.hart.specs.declared.state.Hart.{Hart}
-use Rattle.hart.specs.Hart.{reg, context, holds, registersPass, passes}
+use Rattle.registers.specs.File.{holds, registersPass}
+use Rattle.hart.specs.Hart.{reg, context, passes}
 
 -- V and privilege
 pub data Mode : ℕ → ℕ → Type 0 where

@@ -22,7 +22,8 @@ use Rattle.bits.proofs.Every.{every-at, every-set}
 use Rattle.registers.specs.Fields.{TVM, MIE, MPIE, MPRV, MPP, MPV, SPP, SPV}
 use Rattle.registers.specs.Places.{sstatus, stvec, sepc, satp, vsstatus, vstvec, vsepc, mstatus, mtvec, mepc, hstatus, medeleg, hedeleg, hgatp}
 use Rattle.registers.specs.Rules.{legal, among, stored, stores-mstatus, stores-status, stores-epc}
-use Rattle.registers.specs.Table.{supervisor, machine, at, rowOf}
+use Rattle.registers.specs.Registers.{supervisor, machine, at}
+use Rattle.table.specs.Table.{rowOf}
 use Rattle.registers.proofs.Legal.{fine, takes, same, legal-allowed, stored-legal}
 use Rattle.registers.proofs.Rows.{row-sound}
 use Rattle.status.specs.Trap.{intoM, intoS, intoH}
@@ -36,13 +37,14 @@ use Rattle.privilege.specs.Mode.{isU, isHS, isM, isSet}
 use Rattle.csr.specs.Access as csr
 use Rattle.hart.specs.declared.state.Hart.{Hart}
 use Rattle.hart.specs.declared.event.Step.{Step}
-use Rattle.hart.specs.Hart.{reg, Write, _↢_, _with_, context, holds, passes}
+use Rattle.registers.specs.File.{Write, _↢_, _with_, holds}
+use Rattle.hart.specs.Hart.{reg, context, passes}
 use Rattle.hart.specs.Deliver.{base, writesM, writesHS, writesVS, deliveredM, deliveredHS, deliveredVS, deliveredTo, delivered}
 use Rattle.hart.specs.Event.{refusal, next, moved}
 use Rattle.hart.specs.Return.{writesMRET, writesHSRET, writesVSRET, returnedM, returnedHS, returnedVS}
 use Rattle.csr.specs.Access.{reached, home}
 use Rattle.hart.specs.Access.{written}
-use Rattle.hart.proofs.Registers.{word-legal}
+use Rattle.registers.proofs.Straight.{word-legal}
 use Rattle.hart.proofs.Reach.{reached-bound}
 use Rattle.invariants.specs.Events.{Event, run}
 use Rattle.invariants.proofs.Mode.{Mode, Passing, passing, passes-of}

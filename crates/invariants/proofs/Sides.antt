@@ -10,7 +10,7 @@ use borrow.Author.Tests.{eqb-true}
 use Rattle.bits.specs.Field.{pick, has}
 use Rattle.bits.proofs.Bools.{clash}
 use Rattle.registers.specs.Places.{vsstatus, vsatp, medeleg, hedeleg}
-use Rattle.registers.specs.Table.{at}
+use Rattle.registers.specs.Registers.{at}
 use Rattle.exceptions.specs.declared.Exception.{Exception}
 use Rattle.privilege.specs.Mode.{isM}
 use Rattle.traps.specs.declared.Target.{Target}

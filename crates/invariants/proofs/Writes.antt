@@ -9,7 +9,7 @@ use lib.Seq.{getD-set-other}
 use Rattle.bits.specs.Every.{every}
 use Rattle.bits.proofs.Bools.{split, clash}
 use Rattle.bits.proofs.Every.{every-set}
-use Rattle.hart.specs.Hart.{Write, _with_, holds}
+use Rattle.registers.specs.File.{Write, _with_, holds}
 
 -- every write is to a place inside
 abbrev pub allIn : (ℕ → Bool) → List Write → Bool

@@ -1,9 +1,10 @@
 -- Five modes: U, HS, M (V=0) and VU, VS (V=1) (document 01).
-use mathlib.Core.Bool.{Bool, _&&_}
+use mathlib.Core.Bool.{Bool, _&&_, _||_, not}
 use Prim.Native.Nat.{ℕ}
 use lib.Dec.{eqb}
 use Rattle.bits.specs.declared.Field.{Field}
 use Rattle.bits.specs.Field.{get}
+use Rattle.registers.specs.Fields.{MPRV}
 use Rattle.privilege.specs.declared.mode.Context.{Context}
 use Rattle.privilege.specs.declared.mode.Verdict.{Verdict}
 
@@ -25,6 +26,13 @@ isVS c = eqb (c .v) 1 && eqb (c .privilege) 1
 -- a control's bit is 1
 abbrev pub isSet : Field → ℕ → Bool
 isSet f x = eqb (get f x) 1
+
+-- check 2 of the mode: it is among the five, and MPRV=1 outside M is refused
+abbrev pub amongFive : Context → Bool
+amongFive c = isU c || (isHS c || (isM c || (isVU c || isVS c)))
+
+abbrev pub strayMPRV : Context → Bool
+strayMPRV c = isSet MPRV (c .mstatus) && not (isM c)
 
 -- an instruction gives 2 where the first holds, else 22 where the second does
 abbrev pub verdict : Bool → Bool → Verdict

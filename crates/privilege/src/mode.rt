@@ -1,6 +1,7 @@
 // The five modes, and what an instruction's permission depends on.
 ghost use mathlib.Core.Path.{_≡_};
-ghost use Rattle.privilege.specs.Mode.{isU, isHS, isM, isVU, isVS};
+ghost use Rattle.privilege.specs.Mode.{isU, isHS, isM, isVU, isVS, amongFive, strayMPRV};
+use registers::fields::MPRV;
 
 // V, the privilege (0 U, 1 S, 3 M), and the two status words with the controls.
 pub struct Context {
@@ -45,5 +46,19 @@ impl Context {
         ensures { λ r. ⌜ r ≡ isVS self ⌝ }
     {
         (self.v == 1) & (self.privilege == 1)
+    }
+
+    // The mode is one of the five.
+    pub fn is_among_five(self) -> bool
+        ensures { λ r. ⌜ r ≡ amongFive self ⌝ }
+    {
+        self.is_u() | (self.is_hs() | (self.is_m() | (self.is_vu() | self.is_vs())))
+    }
+
+    // MPRV=1 outside M.
+    pub fn has_stray_mprv(self) -> bool
+        ensures { λ r. ⌜ r ≡ strayMPRV self ⌝ }
+    {
+        (MPRV.get(self.mstatus) == 1) & !self.is_m()
     }
 }

@@ -1,4 +1,4 @@
-pub mod Search
 pub mod Restrictions
 pub mod Legal
 pub mod Rows
+pub mod Straight

@@ -12,7 +12,7 @@ use Rattle.bits.proofs.Every.{every-any}
 use Rattle.registers.specs.Fields.{MODE}
 use Rattle.registers.specs.Places.{mstatus, hgatp, satp, vsatp}
 use Rattle.registers.specs.Rules.{Restriction, free, only, ignores, stores-nothing}
-use Rattle.registers.specs.Table.{Register, register, registers, at}
+use Rattle.registers.specs.Registers.{Register, register, registers, at}
 
 isFree : Restriction → Bool
 isFree free = true

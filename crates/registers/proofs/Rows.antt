@@ -1,21 +1,16 @@
--- The rule of every row of the table: one computed test, and what it says of each register. Assumes nothing.
-use mathlib.Core.Path.{_≡_, refl, sym, ap, _∙_}
+-- The rule of every register: one computed test, and what it says of each register. Assumes nothing.
+use mathlib.Core.Path.{_≡_, refl}
 use mathlib.Core.Bool.{Bool, true}
 use mathlib.Core.Logic.{_↔_}
 use Prim.Native.Nat.{ℕ, suc, _+_, _^_, _<_}
-use native.Mathlib.Omega.{arith}
 use lib.Dec.{eqb, ltb}
-use lib.ListN.{List·getD-map}
 use Rattle.bits.specs.Field.{get, put}
 use Rattle.bits.specs.Every.{every}
 use Rattle.bits.proofs.Every.{every-any}
 use Rattle.bits.proofs.Tests.{fits}
-use Rattle.registers.specs.declared.table.Row.{Row}
-use Rattle.registers.specs.declared.table.Found.the-variants.{At}
 use Rattle.registers.specs.Rules.{stored, legal, stores-nothing}
-use Rattle.registers.specs.Table.{Register, register, registers, at, rowOf, table, firstAt}
+use Rattle.registers.specs.Registers.{Register, register, registers, at}
 use Rattle.registers.proofs.Legal.{sound, storedWhole, legal-exactly}
-use Rattle.registers.proofs.Search.{found}
 
 abbrev test : ℕ → Register → Bool
 test i r = sound (r .rule)
@@ -44,16 +39,3 @@ rising = refl
 pub same-seven : every (λ i (r : Register). eqb (at (i + 7) .number) (r .number + 0x100)) 0 (lib.ListN.take 7 registers) ≡ true
 unfolding every
 same-seven = refl
-
--- what a lookup finds is a row of the table
-pub record Listed (n i : ℕ) (r : Row) : Type 0 where
-  pub below : i < 29
-  pub row : r ≡ rowOf (at i)
-  pub number : at i .number ≡ n
-
-pub lookup-found : (n i : ℕ) (r : Row) → firstAt table n 0 ≡ At i r → Listed n i r
-lookup-found n i r e =
-    let b = found table n 0 i r e in
-    let o : b .offset ≡ i = omega (arith, b .counted) in
-    let q : r ≡ rowOf (at i) = sym (b .here) ∙ List·getD-map rowOf registers (b .offset) (register 0 0 stores-nothing) ∙ ap (λ (j : ℕ). rowOf (at j)) o in
-    record { below = omega (arith, b .within); row = q; number = ap (λ (x : Row). x .number) (sym q) ∙ b .bears }

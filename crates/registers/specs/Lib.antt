@@ -1,4 +1,5 @@
 pub mod Fields
 pub mod Places
 pub mod Rules
-pub mod Table
+pub mod Registers
+pub mod File

@@ -1,6 +1,6 @@
-// The registers: named fields, the table of twenty-nine rows, and what a write stores.
+// The registers: named fields, what a write stores, and all twenty-nine at their places.
 pub mod fields;
+pub mod file;
 pub mod masks;
 pub mod places;
 pub mod rules;
-pub mod table;

@@ -8,7 +8,7 @@ ghost use lib.Dec.{eqb};
 ghost use Rattle.bits.specs.Field.{top, get};
 ghost use Rattle.registers.specs.Fields.{MPP, MODE};
 ghost use Rattle.registers.specs.Rules.{among, taken, legal, stores-mstatus, stores-status, stores-hstatus, stores-hedeleg, stores-medeleg, stores-tvec, stores-epc, stores-satp, stores-hgatp};
-ghost use Rattle.registers.specs.Table.{at};
+ghost use Rattle.registers.specs.Registers.{at};
 use crate::fields::MODE;
 use crate::fields::MPP;
 use crate::masks;

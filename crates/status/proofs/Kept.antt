@@ -8,7 +8,7 @@ use Rattle.bits.specs.Assign.{Assignment, _after_}
 use Rattle.bits.proofs.Tests.{fits, apart, outside}
 use Rattle.registers.specs.Places.{mstatus}
 use Rattle.registers.specs.Rules.{legal}
-use Rattle.registers.specs.Table.{at}
+use Rattle.registers.specs.Registers.{at}
 use Rattle.registers.proofs.Legal.{fine, takes, same, after-legal}
 use Rattle.registers.proofs.Rows.{row-sound}
 use Rattle.status.specs.Trap.{intoM}

@@ -17,7 +17,14 @@ select-requires : tie.Need-select-requires
 select-requires c κs = search needs
 
 returns : tie.Need-returns
-returns c = rw (c .before .before .before .before .if1 .taken) (cc)
+returns c =
+    rw (
+      c .select .ensures,
+      c .before .put .ensures,
+      c .before .before .get .ensures,
+      c .before .before .before .mpp-fits .ensures,
+      c .before .before .before .before .if1 .taken,
+    )
 
 mode-fits-requires : tie.Need-mode-fits-requires
 mode-fits-requires c κs = search needs
@@ -32,7 +39,14 @@ select-requires-2 : tie.Need-select-requires-2
 select-requires-2 c κs = search needs
 
 returns-2 : tie.Need-returns-2
-returns-2 c = rw (c .before .before .before .before .if2 .taken) (cc)
+returns-2 c =
+    rw (
+      c .select2 .ensures,
+      c .before .put2 .ensures,
+      c .before .before .get2 .ensures,
+      c .before .before .before .mode-fits .ensures,
+      c .before .before .before .before .if2 .taken,
+    )
 
 mode-fits-requires-2 : tie.Need-mode-fits-requires-2
 mode-fits-requires-2 c κs = search needs
@@ -41,7 +55,12 @@ select-requires-3 : tie.Need-select-requires-3
 select-requires-3 c κs = search needs
 
 returns-3 : tie.Need-returns-3
-returns-3 c = rw (ignored-mode (c .before .before .before .before .before .args .place) (c .before .before .if3 .taken)) (cc)
+returns-3 c =
+    rw (
+      c .select3 .ensures,
+      c .before .mode-fits2 .ensures,
+      ignored-mode (c .before .before .before .before .before .args .place) (c .before .before .if3 .taken),
+    )
 
 returns-4 : tie.Need-returns-4
 returns-4 c =

@@ -1,6 +1,6 @@
 use mathlib.Core.Path.{sym, _∙_}
 use Rattle.hart.specs.Access.{access}
-use Rattle.registers.proofs.Rows.{lookup-found}
+use Rattle.table.proofs.Listed.{lookup-found}
 use borrow.Author.Needs.{needs}
 use Rattle.hart.proofs.state.Hart.access.Statement.{statement}
 use Rattle.hart.proofs.state.Hart.access.Tie as tie

@@ -1,10 +1,10 @@
 use mathlib.Core.Path.{_≡_}
 use lib.ListN.{length}
-use Rattle.hart.specs.Hart.{registersPass}
-use Rattle.hart.proofs.Registers.{straight}
+use Rattle.registers.specs.File.{registersPass}
+use Rattle.registers.proofs.Straight.{straight}
 use borrow.Author.Needs.{needs}
-use Rattle.hart.proofs.state.Hart.registers_pass.Statement.{statement}
-use Rattle.hart.proofs.state.Hart.registers_pass.Tie as tie
+use Rattle.registers.proofs.file.pass.Statement.{statement}
+use Rattle.registers.proofs.file.pass.Tie as tie
 
 array-read-supervisor-legal : tie.Need-array-read-supervisor-legal
 array-read-supervisor-legal c = search needs
@@ -75,7 +75,7 @@ array-read-result c = search needs
 returns : tie.Need-returns
 unfolding registersPass
 returns c =
-    let regs = c .before .before .before .before .before .before .before .args .self .regs in
+    let regs = c .before .before .before .before .before .before .args .t1 in
     let n : length regs ≡ 29 = search needs in
     rw (
       straight regs n,
@@ -87,8 +87,8 @@ returns c =
       c .before .before .before .before .before .supervisor-legal .ensures,
     )
 
-pub registers-pass-spec : {M : Type 1} → statement M
-registers-pass-spec =
+pub pass-spec : {M : Type 1} → statement M
+pass-spec =
     tie.close
     (tie.spec
     array-read-supervisor-legal

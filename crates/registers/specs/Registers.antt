@@ -1,13 +1,8 @@
--- Twenty-nine registers: one constant table of twenty-nine rows, one for each register (document 01).
+-- The twenty-nine registers, each with its number, level and rule (document 01, "Twenty-nine registers").
 use mathlib.Core.Bool.{Bool, true, false}
-use mathlib.Core.List.{List, [], _∷_, map}
-use Prim.Native.Nat.{ℕ, suc}
-use lib.Dec.{eqb}
+use mathlib.Core.List.{List, [], _∷_}
+use Prim.Native.Nat.{ℕ}
 use lib.ListN.{getD}
-use Rattle.bits.specs.Field.{pick}
-use Rattle.registers.specs.declared.table.Row.{Row}
-use Rattle.registers.specs.declared.table.Found.{Found}
-use Rattle.registers.specs.declared.table.Found.the-variants.{At, Nothing}
 use Rattle.registers.specs.Rules.{Rule, stores-mstatus, stores-status, stores-hstatus, stores-hedeleg, stores-medeleg, stores-tvec, stores-epc, stores-satp, stores-hgatp, stores-word, stores-nothing}
 
 -- the level that a number belongs to: S; VS and H; M
@@ -69,15 +64,3 @@ registers =
 -- the register of a row
 abbrev pub at : ℕ → Register
 at i = getD registers i (register 0 0 stores-nothing)
-
--- what the code's table has of a register
-abbrev pub rowOf : Register → Row
-rowOf r = record { number = r .number; level = r .level; «read_only» = r .read-only; mask = r .rule .mask }
-
-abbrev pub table : List Row
-table = map rowOf registers
-
--- the first row that bears n, with its place, counted from i
-unfoldable pub firstAt : List Row → ℕ → ℕ → Found
-firstAt [] n i = Nothing
-firstAt (r ∷ rs) n i = pick (eqb (r .number) n) (At i r) (firstAt rs n (suc i))

@@ -3,10 +3,10 @@ use mathlib.Core.Path.{_≡_, refl, sym, _∙_}
 use native.Mathlib.Omega.{arith}
 use lib.ListN.{length, drop}
 use borrow.Author.Needs.{needs}
-use Rattle.registers.specs.Table.{firstAt}
-use Rattle.registers.proofs.Search.{first-here, first-next, first-end}
-use Rattle.registers.proofs.table.find.Statement.{statement}
-use Rattle.registers.proofs.table.find.Tie as tie
+use Rattle.table.specs.Table.{firstAt}
+use Rattle.table.proofs.Search.{first-here, first-next, first-end}
+use Rattle.table.proofs.find.Statement.{statement}
+use Rattle.table.proofs.find.Tie as tie
 
 abbrev Inv-loop : tie.InvT-loop
 Inv-loop n table i₀ i = (i ≤ 29) × (firstAt table n 0 ≡ firstAt (drop i table) n i)

@@ -10,9 +10,9 @@ use Rattle.bits.specs.Field.{top}
 use Rattle.bits.specs.Every.{every}
 use Rattle.bits.proofs.Bools.{and-assoc, and-true}
 use Rattle.bits.proofs.Every.{all, every-all}
 use Rattle.registers.specs.Places.{sstatus, stvec, sepc, satp, vsstatus, vstvec, vsepc, vsatp, mstatus, medeleg, mtvec, mepc, hstatus, hedeleg, hgatp, hgeip}
 use Rattle.registers.specs.Rules.{legal, stores-word, stores-nothing, stores-status, stores-mstatus, stores-hstatus, stores-hedeleg, stores-medeleg, stores-tvec, stores-epc, stores-satp, stores-hgatp}
-use Rattle.hart.specs.Hart.{holds}
+use Rattle.registers.specs.File.{holds}
 
 pub word-legal : (x : ℕ) → legal stores-word x ≡ true
 unfolding legal

@@ -12,9 +12,9 @@ use lib.ListN.{length, getD, drop, drop-of-length-le}
 use lib.Seq.{drop-cons}
 use borrow.Author.Tests.{eq-eqb, ne-eqb, eqb-true, eqb-false}
 use Rattle.bits.specs.Field.{pick}
-use Rattle.registers.specs.declared.table.Row.{Row}
-use Rattle.registers.specs.declared.table.Found.the-variants.{At, Nothing}
-use Rattle.registers.specs.Table.{firstAt}
+use Rattle.table.specs.declared.Row.{Row}
+use Rattle.table.specs.declared.Found.the-variants.{At, Nothing}
+use Rattle.table.specs.Table.{firstAt}
 
 -- what stands past a table's end
 abbrev pub none : Row

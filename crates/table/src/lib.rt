@@ -1,7 +1,7 @@
 // The table of registers, in rising order of number, and its search.
 ghost use mathlib.Core.Path.{_≡_};
-ghost use Rattle.registers.specs.Table.{firstAt, table};
-use crate::masks;
+ghost use Rattle.table.specs.Table.{firstAt, table};
+use registers::masks;
 
 // The level that a number belongs to: S; VS and H; M.
 pub const SUPERVISOR: u64 = 1;
@@ -23,7 +23,7 @@ pub enum Found {
     Nothing,
 }
 
-pub const TABLE: [Row; 29] = [
+const TABLE: [Row; 29] = [
     // sstatus
     Row {
         number: 0x100,
@@ -244,9 +244,16 @@ pub fn find(table: [Row; 29], n: u64) -> Found
     Found::Nothing
 }
 
+// The table; a function that used the constant would carry a copy of it in its proof.
+pub fn rows() -> [Row; 29]
+    ensures { λ r. ⌜ r ≡ table ⌝ }
+{
+    TABLE
+}
+
 // The register with the number n.
 pub fn lookup(n: u64) -> Found
     ensures { λ r. ⌜ r ≡ firstAt table n 0 ⌝ }
 {
-    find(TABLE, n)
+    find(rows(), n)
 }

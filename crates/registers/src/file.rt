@@ -1,0 +1,36 @@
+// A hart's registers, each at its place.
+ghost use mathlib.Core.Path.{_≡_};
+ghost use Rattle.registers.specs.File.{initial, registersPass};
+use crate::masks;
+use crate::places;
+use crate::rules;
+
+// Every register holds what a write of 0 leaves.
+pub fn reset() -> [u64; 29]
+    ensures { λ r. ⌜ r ≡ initial ⌝ }
+{
+    let mut regs = [0u64; 29];
+    regs[places::VSSTATUS] = masks::STATUS_FIXED;
+    regs[places::MSTATUS] = masks::MSTATUS_FIXED;
+    regs[places::HSTATUS] = masks::HSTATUS_FIXED;
+    regs
+}
+
+// Every register holds what a write could store.
+pub fn pass(r: [u64; 29]) -> bool
+    ensures { λ b. ⌜ b ≡ registersPass r ⌝ }
+{
+    let s = rules::supervisor_legal(r[places::STVEC], r[places::SEPC], r[places::SATP]);
+    let vs = rules::supervisor_legal(r[places::VSTVEC], r[places::VSEPC], r[places::VSATP]);
+    let vsstatus = rules::status_legal(r[places::VSSTATUS]);
+    let m = rules::machine_legal(
+        r[places::MSTATUS],
+        r[places::MEDELEG],
+        r[places::MTVEC],
+        r[places::MEPC],
+    );
+    let h = rules::hypervisor_legal(r[places::HSTATUS], r[places::HEDELEG], r[places::HGATP]);
+    let guest = vsstatus & vs;
+    let hgeip = rules::within(masks::NOTHING, 0, r[places::HGEIP]);
+    (r[places::SSTATUS] == 0) & (s & (guest & (m & (h & hgeip))))
+}
