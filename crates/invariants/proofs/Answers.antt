@@ -3,6 +3,7 @@ use mathlib.Core.Path.{_≡_, refl}
 use mathlib.Core.Bool.{Bool}
 use Prim.Native.Nat.{ℕ}
 use native.Mathlib.Omega.{arith}
+use Rattle.bits.proofs.Bools.{clash}
 use Rattle.table.specs.declared.Found.{Found}
 use Rattle.table.specs.declared.Found.the-variants.{At, Nothing}
 use Rattle.table.specs.Table.{table, firstAt}
@@ -16,11 +17,11 @@ use Rattle.invariants.specs.Events.{Event, run}
 use Rattle.invariants.proofs.Comes.{Comes, refuses, traps, mrets, srets-VS, srets-HS, moves, writes, comes}
 
 never : {P : Type 0} (o : Outcome) (n : ℕ) → o ≡ Refused n → o ≡ Done → P
-never o n p q = let z : _≡_ {A = ℕ} 0 1 = cc in let no : ⊥ = omega arith in absurd no
+never o n p q = clash (cc)
 
 as-given : (h : Hart) (s : Step) (n : ℕ) → Comes h s → s .outcome ≡ Refused n → s .hart ≡ h
 as-given h s n (refuses m z) e = refl
-as-given h s n (traps a t) e = let z : _≡_ {A = ℕ} 0 1 = cc in let no : ⊥ = omega arith in absurd no
+as-given h s n (traps a t) e = clash (cc)
 as-given h s n (mrets a m) e = never Done n e refl
 as-given h s n (srets-VS a v) e = never Done n e refl
 as-given h s n (srets-HS a v) e = never Done n e refl

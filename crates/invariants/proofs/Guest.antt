@@ -81,8 +81,8 @@ pub record Within (h h′ : Hart) : Type 0 where
 
 within : (h : Hart) (s : Step) → Comes h s → h .v ≡ 1 → s .outcome ≡ Done → Within h (s .hart)
 unfolding returnedVS written
-within h s (refuses n k) v e = let z : _≡_ {A = ℕ} 0 1 = cc in let no : ⊥ = omega arith in absurd no
-within h s (traps a t) v e = let z : _≡_ {A = ℕ} 0 1 = cc in let no : ⊥ = omega arith in absurd no
+within h s (refuses n k) v e = clash (cc)
+within h s (traps a t) v e = clash (cc)
 within h s (mrets a m) v e = clash (rw v at (and-left (eqb (h .v) 0) _ m))
 within h s (srets-VS a u) v e = record { registers = outside-kept guest (writesVSRET h) (h .regs) refl; v = refl }
 within h s (srets-HS a u) v e = clash (sym (rw v at u))
@@ -97,7 +97,7 @@ guest-within e h = within h (run e h) (comes e h)
 settled-keeps : (h : Hart) (own : ℕ) (verdict : Verdict) (h′ : Hart) → h′ .privilege ≡ h .privilege → settled h own verdict (done h′) .outcome ≡ Done → settled h own verdict (done h′) .hart .privilege ≡ h .privilege
 settled-keeps h own verdict h′ k =
     settled-cases (λ (s : Step). s .outcome ≡ Done → s .hart .privilege ≡ h .privilege) h own verdict (done h′) (λ n z e. refl)
-    (λ p cause e. let z : _≡_ {A = ℕ} 0 1 = cc in let no : ⊥ = omega arith in absurd no) (λ p o a b e. k)
+    (λ p cause e. clash (cc)) (λ p o a b e. k)
 
 found-keeps : (found : Found) (h : Hart) (own : ℕ) (form : Form) (w : ℕ) (b : Bool) → accessFound found h own form w b .outcome ≡ Done → accessFound found h own form w b .hart .privilege ≡ h .privilege
 unfolding accessRow written

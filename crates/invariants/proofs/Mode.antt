@@ -7,12 +7,10 @@ use lib.Dec.{eqb}
 use borrow.Author.Tests.{eqb-true, eq-eqb}
 use Rattle.bits.specs.Every.{every}
 use Rattle.bits.proofs.Bools.{split, both, or-cases}
-use Rattle.registers.specs.Fields.{MPRV}
-use Rattle.registers.specs.Places.{mstatus}
-use Rattle.privilege.specs.Mode.{isM, isSet}
+use Rattle.privilege.specs.Mode.{amongFive, strayMPRV}
 use Rattle.hart.specs.declared.state.Hart.{Hart}
 use Rattle.registers.specs.File.{holds, registersPass}
-use Rattle.hart.specs.Hart.{reg, context, passes}
+use Rattle.hart.specs.Hart.{context, passes}
 
 -- V and privilege
 pub data Mode : ℕ → ℕ → Type 0 where
@@ -43,19 +41,18 @@ of-mode v p VS = refl
 -- check 2, part by part
 pub record Passing (h : Hart) : Type 0 where
   pub mode : Mode (h .v) (h .privilege)
-  pub aligned : h .pc % 4 ≡ 0
-  pub mprv : not (isSet MPRV (reg h mstatus) && not (isM (context h))) ≡ true
   pub regs : every holds 0 (h .regs) ≡ true
+  pub aligned : h .pc % 4 ≡ 0
+  pub mprv : not (strayMPRV (context h)) ≡ true
 
 pub passing : (h : Hart) → passes h ≡ true → Passing h
 unfolding passes registersPass
 passing h p =
-    split (five (h .v) (h .privilege)) _ p (λ m p₁. split (eqb (h .pc % 4) 0) _ p₁ (λ a p₂.
-    split (not (isSet MPRV (reg h mstatus) && not (isM (context h)))) _ p₂ (λ v r.
-    record { mode = mode-of (h .v) (h .privilege) m; aligned = eqb-true _ _ a; mprv = v; regs = r })))
+    split (amongFive (context h)) _ p (λ m p₁. split (every holds 0 (h .regs)) _ p₁ (λ r p₂. split (eqb (h .pc % 4) 0) _ p₂ (λ a v.
+    record { mode = mode-of (h .v) (h .privilege) m; regs = r; aligned = eqb-true _ _ a; mprv = v })))
 
 pub passes-of : (h : Hart) → Passing h → passes h ≡ true
 unfolding passes registersPass
 passes-of h p =
-    both (five (h .v) (h .privilege)) _ (of-mode (h .v) (h .privilege) (p .mode))
-    (both (eqb (h .pc % 4) 0) _ (eq-eqb _ _ (p .aligned)) (both _ _ (p .mprv) (p .regs)))
+    both (amongFive (context h)) _ (of-mode (h .v) (h .privilege) (p .mode))
+    (both _ _ (p .regs) (both (eqb (h .pc % 4) 0) _ (eq-eqb _ _ (p .aligned)) (p .mprv)))

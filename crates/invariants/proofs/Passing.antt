@@ -172,8 +172,8 @@ module _ (h : Hart) (t : Exception) (p : Passing h) (l : length (h .regs) ≡ 29
 
   into : (to : Target) → target (context h) (reg h medeleg) (reg h hedeleg) (t .cause) ≡ to → Passing (deliveredTo to h t)
   into M e = into-M
-  into HS e = into-HS (not-M (isM (context h)) _ (eqb (h .v) 1 && has (t .cause) (reg h hedeleg)) HS e (λ x. let z : _≡_ {A = ℕ} 0 1 = cc in omega arith))
-  into VS e = into-VS (not-M (isM (context h)) _ (eqb (h .v) 1 && has (t .cause) (reg h hedeleg)) VS e (λ x. let z : _≡_ {A = ℕ} 0 1 = cc in omega arith))
+  into HS e = into-HS (not-M (isM (context h)) _ (eqb (h .v) 1 && has (t .cause) (reg h hedeleg)) HS e (λ x. clash (cc)))
+  into VS e = into-VS (not-M (isM (context h)) _ (eqb (h .v) 1 && has (t .cause) (reg h hedeleg)) VS e (λ x. clash (cc)))
 
   delivered-passes : Passing (delivered h t)
   unfolding delivered

@@ -12,6 +12,7 @@ use lib.ListN.{length, getD, drop, drop-of-length-le}
 use lib.Seq.{drop-cons}
 use borrow.Author.Tests.{eq-eqb, ne-eqb, eqb-true, eqb-false}
 use Rattle.bits.specs.Field.{pick}
+use Rattle.bits.proofs.Bools.{clash}
 use Rattle.table.specs.declared.Row.{Row}
 use Rattle.table.specs.declared.Found.the-variants.{At, Nothing}
 use Rattle.table.specs.Table.{firstAt}
@@ -45,7 +46,7 @@ pub record Bears (t : List Row) (n k i : ℕ) (r : Row) : Type 0 where
 -- whatever is found bears the number
 pub found : (t : List Row) (n k i : ℕ) (r : Row) → firstAt t n k ≡ At i r → Bears t n k i r
 unfolding firstAt
-found [] n k i r e = let z : _≡_ {A = ℕ} 0 1 = cc in let no : ⊥ = omega arith in absurd no
+found [] n k i r e = clash (cc)
 found (x ∷ xs) n k i r e = at (eqb (x .number) n) refl e (found xs n (suc k) i r)
   where
     at : (b : Bool) → eqb (x .number) n ≡ b → pick b (At k x) (firstAt xs n (suc k)) ≡ At i r → (firstAt xs n (suc k) ≡ At i r → Bears xs n (suc k) i r) → Bears (x ∷ xs) n k i r
@@ -67,7 +68,7 @@ none-bears [] n k e = λ j h b. omega arith
 none-bears (x ∷ xs) n k e = at (eqb (x .number) n) refl e (none-bears xs n (suc k))
   where
     at : (b : Bool) → eqb (x .number) n ≡ b → pick b (At k x) (firstAt xs n (suc k)) ≡ Nothing → (firstAt xs n (suc k) ≡ Nothing → Unlisted xs n) → Unlisted (x ∷ xs) n
-    at true p q ih j h b = let z : _≡_ {A = ℕ} 0 1 = cc in omega arith
+    at true p q ih j h b = clash (cc)
     at false p q ih zero h b = eqb-false _ _ p b
     at false p q ih (suc j) h b = ih q j (le-of-suc-le-suc h) b
 

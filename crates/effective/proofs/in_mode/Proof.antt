@@ -27,7 +27,15 @@ second-requires : tie.Need-second-requires
 second-requires c κs = search needs
 
 returns : tie.Need-returns
-returns c = cc
+returns c =
+    rw (
+      c .second .ensures,
+      c .before .first .ensures,
+      c .before .before .get3 .ensures,
+      c .before .before .before .get2 .ensures,
+      c .before .before .before .before .before .get .ensures,
+      c .before .before .before .before .before .before .select .ensures,
+    )
 
 pub in-mode-spec : {M : Type 1} → statement M
 in-mode-spec =

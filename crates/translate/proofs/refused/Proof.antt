@@ -8,7 +8,7 @@ test-requires c κs = search needs
 
 returns : tie.Need-returns
 unfolding unsupported
-returns c = cc
+returns c = rw (c .test .ensures)
 
 pub refused-spec : {M : Type 1} → statement M
 refused-spec = tie.close (tie.spec test-requires returns)
