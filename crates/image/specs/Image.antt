@@ -17,11 +17,12 @@ unfit base len =
 unfoldable pub within : ℕ → ℕ → ℕ → ℕ → Bool
 within base len address width = leb base address && leb (address + width) (base + len)
 
--- Eight bytes of s from a place on, little-endian.
+-- Four and eight bytes of s from a place on, little-endian.
+abbrev pub four : List ℕ → ℕ → ℕ
+four s at = getD s at 0 + getD s (at + 1) 0 * 2 ^ 8 + getD s (at + 2) 0 * 2 ^ 16 + getD s (at + 3) 0 * 2 ^ 24
+
 abbrev pub eight : List ℕ → ℕ → ℕ
-eight s at =
-    getD s at 0 + getD s (at + 1) 0 * 2 ^ 8 + getD s (at + 2) 0 * 2 ^ 16 + getD s (at + 3) 0 * 2 ^ 24 + getD s (at + 4) 0 * 2 ^ 32
-    + getD s (at + 5) 0 * 2 ^ 40 + getD s (at + 6) 0 * 2 ^ 48 + getD s (at + 7) 0 * 2 ^ 56
+eight s at = four s at + four s (at + 4) * 2 ^ 32
 
 -- The entry at a machine address: eight bytes, if they lie in the image.
 unfoldable pub entry : ℕ → List ℕ → ℕ → Entry

@@ -1,8 +1,8 @@
 // The image: a base and a lent run of bytes, never written.
 ghost use mathlib.Core.Path.{_≡_};
-ghost use Prim.Native.Nat.{_+_, _<_, _≤_};
+ghost use Prim.Native.Nat.{_+_, _^_, _<_, _≤_};
 ghost use lib.ListN.{length};
-ghost use Rattle.image.specs.Image.{unfit, within, eight, entry};
+ghost use Rattle.image.specs.Image.{unfit, within, four, eight, entry};
 
 // What stands at a machine address: an entry's value, or nothing of the image.
 pub enum Entry {
@@ -39,19 +39,23 @@ fn wide(x: u8) -> u64
     x as u64
 }
 
-// The eight bytes from an offset on. The compiler makes one load of it.
-fn load(s: &[u8], at: usize) -> u64
-    requires { ⌜ at + 8 ≤ length (now s) ⌝ }
-    ensures { λ r. ⌜ r ≡ eight (now (s .entry)) at ⌝ }
+// The four bytes from an offset on.
+fn four(s: &[u8], at: usize) -> u64
+    requires { ⌜ at + 4 ≤ length (now s) ⌝ }
+    ensures { λ r. ⌜ (r ≡ four (now (s .entry)) at) × (r < 2 ^ 32) ⌝ }
 {
     wide(s[at])
         + wide(s[at + 1]) * 0x100
         + wide(s[at + 2]) * 0x1_0000
         + wide(s[at + 3]) * 0x100_0000
-        + wide(s[at + 4]) * 0x1_0000_0000
-        + wide(s[at + 5]) * 0x100_0000_0000
-        + wide(s[at + 6]) * 0x1_0000_0000_0000
-        + wide(s[at + 7]) * 0x100_0000_0000_0000
+}
+
+// The eight bytes from an offset on. The compiler makes one load of it.
+fn load(s: &[u8], at: usize) -> u64
+    requires { ⌜ at + 8 ≤ length (now s) ⌝ }
+    ensures { λ r. ⌜ r ≡ eight (now (s .entry)) at ⌝ }
+{
+    four(s, at) + four(s, at + 4) * 0x1_0000_0000
 }
 
 // The entry at a machine address.
