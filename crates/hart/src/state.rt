@@ -1,6 +1,5 @@
 // What a hart holds, and check 2.
 ghost use mathlib.Core.Path.{_≡_};
-ghost use Prim.Native.Nat.{_%_};
 ghost use Rattle.hart.specs.Hart.{reset, context, passes};
 use privilege::mode::Context;
 use registers::file;
