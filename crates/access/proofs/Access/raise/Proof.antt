@@ -1,6 +1,6 @@
 use borrow.Author.Needs.{needs}
-use Rattle.rules.proofs.Access.raise.Statement.{statement}
-use Rattle.rules.proofs.Access.raise.Tie as tie
+use Rattle.access.proofs.Access.raise.Statement.{statement}
+use Rattle.access.proofs.Access.raise.Tie as tie
 
 cause-requires : tie.Need-cause-requires
 cause-requires c κs = search needs
