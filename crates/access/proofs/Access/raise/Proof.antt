@@ -6,7 +6,7 @@ cause-requires : tie.Need-cause-requires
 cause-requires c κs = search needs
 
 returns : tie.Need-returns
-returns c = cc
+returns c = rw (c .cause .ensures)
 
 pub raise-spec : {M : Type 1} → statement M
 raise-spec = tie.close (tie.spec cause-requires returns)
