@@ -8,10 +8,10 @@ use Rattle.registers.specs.Places.{satp, vsatp, hgatp, mstatus, vsstatus}
 use Rattle.privilege.specs.Mode.{isM, isSet}
 use Rattle.hart.specs.declared.state.Hart.{Hart}
 use Rattle.hart.specs.Hart.{reg, context}
-use Rattle.rules.specs.declared.Access.{Access}
 use Rattle.rules.specs.declared.Kind.{Kind}
-use Rattle.rules.specs.declared.Root.{Root}
 use Rattle.rules.specs.Kind.{by}
+use Rattle.access.specs.declared.Access.{Access}
+use Rattle.access.specs.declared.Root.{Root}
 use Rattle.effective.specs.declared.Mode.{Mode}
 
 -- "in M with MPRV=1 a load or store uses MPP"

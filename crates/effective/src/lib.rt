@@ -1,12 +1,12 @@
 // What an access takes from the hart: its effective mode, the stages that are on, and the bits that count.
 ghost use mathlib.Core.Path.{_≡_};
 ghost use Rattle.effective.specs.Effective.{effective, root, off, firstRoot, secondRoot, inMode, accessOf};
+use access::Access;
+use access::Root;
 use hart::state::Hart;
 use registers::fields;
 use registers::places;
-use rules::Access;
 use rules::Kind;
-use rules::Root;
 
 // The mode that an access is made in.
 pub struct Mode {

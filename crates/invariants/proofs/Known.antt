@@ -23,9 +23,9 @@ use Rattle.hart.specs.Return.{returnedM, mret}
 use Rattle.hart.specs.Access.{written, accessRow, access, read, write}
 use Rattle.image.specs.declared.Entry.the-variants.{Value}
 use Rattle.rules.specs.declared.Kind.the-variants.{Load}
-use Rattle.rules.specs.declared.Machine.{Machine}
 use Rattle.rules.specs.Address.{first, wellFormed, extended, small, index}
 use Rattle.rules.specs.Entry.{malformed, badPointer, badLeaf, faulty, judged}
+use Rattle.access.specs.declared.Machine.{Machine}
 use Rattle.walk.specs.declared.Read.{Read}
 use Rattle.walk.specs.Tree.{Ran, bind, run}
 use Rattle.walk.specs.Stages.{Outcome, yields, faults, follow, inspect, down, begin, final, walkOf}

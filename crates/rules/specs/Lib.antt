@@ -1,4 +1,3 @@
 pub mod Kind
 pub mod Entry
 pub mod Address
-pub mod Faults

@@ -15,12 +15,12 @@ use Rattle.registers.specs.Places.{satp, vsatp, hgatp}
 use Rattle.hart.specs.declared.state.Hart.{Hart}
 use Rattle.hart.specs.Hart.{reg, passes}
 use Rattle.image.specs.Image.{unfit}
-use Rattle.rules.specs.declared.Access.{Access}
 use Rattle.rules.specs.declared.Kind.{Kind}
 use Rattle.rules.specs.declared.Kind.the-variants.{Fetch, Load, Store}
-use Rattle.rules.specs.declared.Machine.{Machine}
-use Rattle.rules.specs.declared.Root.{Root}
-use Rattle.rules.specs.Faults.{misalignment}
+use Rattle.access.specs.declared.Access.{Access}
+use Rattle.access.specs.declared.Machine.{Machine}
+use Rattle.access.specs.declared.Root.{Root}
+use Rattle.access.specs.Faults.{misalignment}
 use Rattle.walk.specs.declared.Walked.{Walked}
 use Rattle.walk.specs.Tree.{bind, run}
 use Rattle.walk.specs.Stages.{Outcome, yields, faults, look, begin, final, walkOf}

@@ -15,13 +15,13 @@ use Rattle.hart.specs.declared.state.Hart.{Hart}
 use Rattle.hart.specs.Hart.{context, passes}
 use Rattle.hart.specs.Event.{trapped, settled}
 use Rattle.hart.specs.Trap.{trap}
-use Rattle.rules.specs.declared.Access.{Access}
-use Rattle.rules.specs.declared.Guest.{Guest}
 use Rattle.rules.specs.declared.Kind.{Kind}
 use Rattle.rules.specs.declared.Kind.the-variants.{Fetch, Load, Store}
-use Rattle.rules.specs.declared.Machine.{Machine}
 use Rattle.rules.specs.Kind.{by}
-use Rattle.rules.specs.Faults.{raised, misalignment, accessFault, pageFault, guestPageFault, entryFault}
+use Rattle.access.specs.declared.Access.{Access}
+use Rattle.access.specs.declared.Guest.{Guest}
+use Rattle.access.specs.declared.Machine.{Machine}
+use Rattle.access.specs.Faults.{raised, misalignment, accessFault, pageFault, guestPageFault, entryFault}
 use Rattle.walk.specs.Stages.{Outcome, yields, faults, look}
 use Rattle.walk.proofs.Raised.{every-fault}
 use Rattle.translate.specs.declared.Answer.{Answer}

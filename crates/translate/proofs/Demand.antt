@@ -12,10 +12,10 @@ use Rattle.bits.proofs.Bools.{clash}
 use Rattle.hart.specs.declared.state.Hart.{Hart}
 use Rattle.hart.specs.Hart.{passes}
 use Rattle.image.specs.Image.{unfit}
-use Rattle.rules.specs.declared.Access.{Access}
 use Rattle.rules.specs.declared.Kind.{Kind}
-use Rattle.rules.specs.declared.Machine.{Machine}
-use Rattle.rules.specs.Faults.{misalignment, secondNeed, entryNeed}
+use Rattle.access.specs.declared.Access.{Access}
+use Rattle.access.specs.declared.Machine.{Machine}
+use Rattle.access.specs.Faults.{misalignment, secondNeed, entryNeed}
 use Rattle.walk.specs.declared.Read.{Read}
 use Rattle.walk.specs.Tree.{Walk, Ran, run}
 use Rattle.walk.specs.Stages.{Outcome, yields, faults, look, walkOf}

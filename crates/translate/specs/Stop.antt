@@ -5,10 +5,10 @@ use Rattle.bits.specs.Field.{pick}
 use Rattle.hart.specs.declared.state.Hart.{Hart}
 use Rattle.hart.specs.Hart.{passes}
 use Rattle.image.specs.Image.{unfit}
-use Rattle.rules.specs.declared.Access.{Access}
 use Rattle.rules.specs.declared.Kind.{Kind}
-use Rattle.rules.specs.declared.Machine.{Machine}
-use Rattle.rules.specs.Faults.{misalignment}
+use Rattle.access.specs.declared.Access.{Access}
+use Rattle.access.specs.declared.Machine.{Machine}
+use Rattle.access.specs.Faults.{misalignment}
 use Rattle.walk.specs.Stages.{Outcome}
 use Rattle.translate.specs.declared.Answer.{Answer}
 use Rattle.translate.specs.declared.Stop.{Stop}

@@ -5,11 +5,11 @@ ghost use Prim.Native.Nat.{_%_};
 ghost use Rattle.walk.specs.Place.{outcome};
 ghost use Rattle.translate.specs.Stop.{stopOf, walks, onlyIf, answerOf};
 ghost use Rattle.translate.specs.Translated.{known, unsupported, misaligned, translated};
+use access::Access;
+use access::Machine;
 use exceptions::Exception;
 use hart::state::Hart;
-use rules::Access;
 use rules::Kind;
-use rules::Machine;
 use walk::Reached;
 use walk::Read;
 

@@ -8,16 +8,16 @@ use lib.ListN.{length}
 use Rattle.bits.specs.Field.{pick}
 use Rattle.image.specs.declared.Entry.{Entry}
 use Rattle.image.specs.declared.Entry.the-variants.{Value, Outside}
-use Rattle.rules.specs.declared.Access.{Access}
 use Rattle.exceptions.specs.declared.Exception.{Exception}
-use Rattle.rules.specs.declared.Guest.{Guest}
-use Rattle.rules.specs.declared.Machine.{Machine}
 use Rattle.rules.specs.declared.Need.{Need}
 use Rattle.rules.specs.declared.Verdict.{Verdict}
 use Rattle.rules.specs.declared.Verdict.the-variants.{Pointer, Leaf, Bad}
 use Rattle.rules.specs.Address.{wellFormed}
 use Rattle.rules.specs.Entry.{judged}
-use Rattle.rules.specs.Faults.{guestPageFault, secondNeed}
+use Rattle.access.specs.declared.Access.{Access}
+use Rattle.access.specs.declared.Guest.{Guest}
+use Rattle.access.specs.declared.Machine.{Machine}
+use Rattle.access.specs.Faults.{guestPageFault, secondNeed}
 use Rattle.walk.specs.Tree.{Walk, done, ask, bind, item, listed, found, run}
 use Rattle.walk.specs.Stages.{Outcome, yields, faults, Translation, _then_, follow, inspect, down, begin, translation, second-of, first-of, last, final, walkOf}
 

@@ -10,17 +10,17 @@ use Rattle.bits.proofs.Bools.{and-left, and-right}
 use Rattle.image.specs.declared.Entry.{Entry}
 use Rattle.image.specs.declared.Entry.the-variants.{Value, Outside}
 use Rattle.image.specs.Image.{within}
-use Rattle.rules.specs.declared.Access.{Access}
 use Rattle.exceptions.specs.declared.Exception.{Exception}
-use Rattle.rules.specs.declared.Guest.{Guest}
-use Rattle.rules.specs.declared.Machine.{Machine}
 use Rattle.rules.specs.declared.Need.{Need}
 use Rattle.rules.specs.declared.Verdict.{Verdict}
 use Rattle.rules.specs.declared.Verdict.the-variants.{Pointer, Leaf, Bad}
 use Rattle.rules.specs.Address.{wellFormed, first, second}
 use Rattle.rules.specs.Entry.{R, X, pointer, reached, granted, target, judged}
-use Rattle.rules.specs.Faults.{accessFault, entryFault, guestPageFault, firstNeed, secondNeed, entryNeed}
 use Rattle.rules.proofs.Verdicts.{is-pointer, is-leaf, leaf-right}
+use Rattle.access.specs.declared.Access.{Access}
+use Rattle.access.specs.declared.Guest.{Guest}
+use Rattle.access.specs.declared.Machine.{Machine}
+use Rattle.access.specs.Faults.{accessFault, entryFault, guestPageFault, firstNeed, secondNeed, entryNeed}
 use Rattle.walk.specs.declared.Read.{Read}
 use Rattle.walk.specs.Tree.{Walk, done, ask, bind, item, Ran, listed, found, run}
 use Rattle.walk.specs.Stages.{Outcome, yields, faults, onward, _then_, Translation, slot, follow, inspect, down, begin, translation, guest, machine, second-of, first-of, last, final, walkOf}

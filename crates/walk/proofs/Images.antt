@@ -9,7 +9,7 @@ use Rattle.bits.proofs.Bools.{clash}
 use Rattle.image.specs.declared.Entry.{Entry}
 use Rattle.image.specs.declared.Entry.the-variants.{Value, Outside}
 use Rattle.image.specs.Image.{within, eight, entry}
-use Rattle.rules.specs.declared.Machine.{Machine}
+use Rattle.access.specs.declared.Machine.{Machine}
 use Rattle.walk.specs.Tree.{Walk, done, ask, item, listed, found, run}
 use Rattle.walk.specs.Stages.{look}
 use Rattle.walk.specs.Through.{Agree}

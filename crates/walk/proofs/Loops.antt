@@ -9,9 +9,9 @@ use lib.ListN.{length, set, length-set, length-replicate}
 use Rattle.bits.specs.Field.{pick}
 use Rattle.image.specs.declared.Entry.{Entry}
 use Rattle.image.specs.declared.Entry.the-variants.{Value, Outside}
-use Rattle.rules.specs.declared.Access.{Access}
-use Rattle.rules.specs.declared.Machine.{Machine}
-use Rattle.rules.specs.Faults.{accessFault}
+use Rattle.access.specs.declared.Access.{Access}
+use Rattle.access.specs.declared.Machine.{Machine}
+use Rattle.access.specs.Faults.{accessFault}
 use Rattle.walk.specs.declared.Next.{Next}
 use Rattle.walk.specs.declared.Next.the-variants.{Look, Ended}
 use Rattle.walk.specs.declared.Place.{Place}

@@ -11,12 +11,12 @@ use Rattle.bits.proofs.Bools.{clash}
 use Rattle.image.specs.declared.Entry.{Entry}
 use Rattle.image.specs.declared.Entry.the-variants.{Value, Outside}
 use Rattle.exceptions.specs.declared.Exception.{Exception}
-use Rattle.rules.specs.declared.Machine.{Machine}
 use Rattle.rules.specs.declared.Verdict.{Verdict}
 use Rattle.rules.specs.declared.Verdict.the-variants.{Pointer, Leaf, Bad}
 use Rattle.rules.specs.Address.{number, wellFormed}
 use Rattle.rules.specs.Entry.{PPN, target, offset, judged}
 use Rattle.rules.proofs.Verdicts.{is-leaf}
+use Rattle.access.specs.declared.Machine.{Machine}
 use Rattle.walk.specs.Tree.{Walk, done, item, listed, found, run}
 use Rattle.walk.specs.Stages.{Outcome, yields, faults, onward, _then_, Translation, slot, follow, inspect, down, begin, translation}
 use Rattle.walk.proofs.Runs.{run-bind}

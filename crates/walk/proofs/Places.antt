@@ -5,12 +5,12 @@ use Prim.Native.Nat.{ℕ, zero, suc, _+_, _-_, _*_, _<_}
 use native.Mathlib.Omega.{arith}
 use lib.Dec.{eqb·suc-zero}
 use Rattle.bits.specs.Field.{pick, get}
-use Rattle.rules.specs.declared.Access.{Access}
-use Rattle.rules.specs.declared.Guest.{Guest}
-use Rattle.rules.specs.declared.Machine.{Machine}
 use Rattle.rules.specs.Address.{wellFormed, first, second, indexBits, index}
-use Rattle.rules.specs.Faults.{pageFault, entryFault, entryNeed}
 use Rattle.rules.proofs.Indices.{below-root}
+use Rattle.access.specs.declared.Access.{Access}
+use Rattle.access.specs.declared.Guest.{Guest}
+use Rattle.access.specs.declared.Machine.{Machine}
+use Rattle.access.specs.Faults.{pageFault, entryFault, entryNeed}
 use Rattle.walk.specs.declared.Next.the-variants.{Look}
 use Rattle.walk.specs.declared.Place.{Place}
 use Rattle.walk.specs.Tree.{done, bind}

@@ -8,7 +8,7 @@ use lib.ListN.{length, replicate, set, drop, length-replicate}
 use lib.Seq.{sets, sets-eq}
 use Rattle.image.specs.declared.Entry.{Entry}
 use Rattle.image.specs.declared.Entry.the-variants.{Value, Outside}
-use Rattle.rules.specs.declared.Machine.{Machine}
+use Rattle.access.specs.declared.Machine.{Machine}
 use Rattle.walk.specs.declared.Read.{Read}
 use Rattle.walk.specs.declared.Reached.{Reached}
 use Rattle.walk.specs.declared.Reached.the-variants.{At, Failed}

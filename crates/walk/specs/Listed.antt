@@ -2,7 +2,7 @@
 use mathlib.Core.List.{List, _++_}
 use Prim.Native.Nat.{ℕ, _-_}
 use lib.ListN.{length, replicate}
-use Rattle.rules.specs.declared.Machine.{Machine}
+use Rattle.access.specs.declared.Machine.{Machine}
 use Rattle.walk.specs.declared.Read.{Read}
 use Rattle.walk.specs.declared.Reached.{Reached}
 use Rattle.walk.specs.declared.Reached.the-variants.{At, Failed}

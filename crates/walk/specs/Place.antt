@@ -3,13 +3,13 @@ use mathlib.Core.Path.{_≡_}
 use Prim.Native.Nat.{ℕ, zero, suc, _^_, _<_, _≤_}
 use lib.Dec.{eqb}
 use Rattle.bits.specs.Field.{pick}
-use Rattle.rules.specs.declared.Access.{Access}
 use Rattle.exceptions.specs.declared.Exception.{Exception}
-use Rattle.rules.specs.declared.Guest.{Guest}
-use Rattle.rules.specs.declared.Machine.{Machine}
 use Rattle.rules.specs.declared.Need.{Need}
 use Rattle.rules.specs.Entry.{judged}
-use Rattle.rules.specs.Faults.{accessFault, guestPageFault, entryFault, firstNeed, secondNeed, entryNeed}
+use Rattle.access.specs.declared.Access.{Access}
+use Rattle.access.specs.declared.Guest.{Guest}
+use Rattle.access.specs.declared.Machine.{Machine}
+use Rattle.access.specs.Faults.{accessFault, guestPageFault, entryFault, firstNeed, secondNeed, entryNeed}
 use Rattle.walk.specs.declared.Next.{Next}
 use Rattle.walk.specs.declared.Next.the-variants.{Look, Ended}
 use Rattle.walk.specs.declared.Place.{Place}

@@ -4,17 +4,17 @@ use Prim.Native.Nat.{ℕ, zero, suc, _+_, _*_}
 use Rattle.bits.specs.Field.{pick}
 use Rattle.image.specs.declared.Entry.{Entry}
 use Rattle.image.specs.Image.{within, entry}
-use Rattle.rules.specs.declared.Access.{Access}
 use Rattle.exceptions.specs.declared.Exception.{Exception}
-use Rattle.rules.specs.declared.Guest.{Guest}
-use Rattle.rules.specs.declared.Machine.{Machine}
 use Rattle.rules.specs.declared.Need.{Need}
-use Rattle.rules.specs.declared.Root.{Root}
 use Rattle.rules.specs.declared.Verdict.{Verdict}
 use Rattle.rules.specs.declared.Verdict.the-variants.{Pointer, Leaf, Bad}
 use Rattle.rules.specs.Address.{Stage, first, second, number, wellFormed, index}
 use Rattle.rules.specs.Entry.{judged}
-use Rattle.rules.specs.Faults.{accessFault, pageFault, guestPageFault, entryFault, firstNeed, secondNeed, entryNeed}
+use Rattle.access.specs.declared.Access.{Access}
+use Rattle.access.specs.declared.Guest.{Guest}
+use Rattle.access.specs.declared.Machine.{Machine}
+use Rattle.access.specs.declared.Root.{Root}
+use Rattle.access.specs.Faults.{accessFault, pageFault, guestPageFault, entryFault, firstNeed, secondNeed, entryNeed}
 use Rattle.walk.specs.Tree.{Walk, done, ask, bind}
 
 abbrev pub guest : ℕ → Guest

@@ -5,11 +5,11 @@ use mathlib.Core.List.{List, [], _∷_, _++_}
 use Prim.Native.Nat.{ℕ, suc, _+_, _-_, _*_, _^_, _≤_}
 use Rattle.bits.specs.Field.{has}
 use Rattle.image.specs.declared.Entry.{Entry}
-use Rattle.rules.specs.declared.Machine.{Machine}
 use Rattle.rules.specs.declared.Need.{Need}
-use Rattle.rules.specs.declared.Root.{Root}
 use Rattle.rules.specs.Address.{second, number, index}
 use Rattle.rules.specs.Entry.{U, pointer, granted, faulty, target}
+use Rattle.access.specs.declared.Machine.{Machine}
+use Rattle.access.specs.declared.Root.{Root}
 use Rattle.walk.specs.declared.Read.{Read}
 use Rattle.walk.specs.Tree.{item}
 use Rattle.walk.specs.Stages.{machine}

@@ -3,7 +3,7 @@ use mathlib.Core.List.{List, [], _∷_}
 use Prim.Native.Nat.{ℕ}
 use Rattle.image.specs.declared.Entry.{Entry}
 use Rattle.image.specs.declared.Entry.the-variants.{Value, Outside}
-use Rattle.rules.specs.declared.Machine.{Machine}
+use Rattle.access.specs.declared.Machine.{Machine}
 use Rattle.walk.specs.declared.Read.{Read}
 
 -- `ask` has what follows an entry outside the image, and what follows a value.

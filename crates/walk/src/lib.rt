@@ -4,19 +4,19 @@ ghost use mathlib.Core.Bool.{true};
 ghost use Prim.Native.Nat.{_+_, _-_, _*_, _≤_, _<_};
 ghost use lib.ListN.{length};
 ghost use Rattle.rules.specs.Entry.{judged};
-ghost use Rattle.rules.specs.Faults.{firstNeed};
+ghost use Rattle.access.specs.Faults.{firstNeed};
 ghost use Rattle.walk.specs.Tree.{run};
 ghost use Rattle.walk.specs.Stages.{look, walkOf, onward, last};
 ghost use Rattle.walk.specs.Listed.{walked, reached};
 ghost use Rattle.walk.specs.Place.{needAt, faultAt, needOf, addressOf, arrived, entered, outcome, secondAfter, firstAfter, after, Tables, Sound, Leads};
+use access::Access;
+use access::Guest;
+use access::Machine;
 use bits::select;
 use exceptions::Exception;
 use image::Entry;
 use image::fetch;
 use image::inside;
-use rules::Access;
-use rules::Guest;
-use rules::Machine;
 use rules::Need;
 use rules::Verdict;
 
@@ -65,7 +65,7 @@ fn need(a: Access, p: Place) -> Need
     if p.left == 0 {
         return a.second_need();
     }
-    rules::entry_need()
+    access::entry_need()
 }
 
 // The address that the stage of a place translates.

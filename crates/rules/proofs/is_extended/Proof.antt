@@ -29,7 +29,7 @@ select-requires c κs = search needs
 
 returns : tie.Need-returns
 unfolding extended
-returns c = cc
+returns c = rw (c .select .ensures, c .before .get2 .ensures, c .before .before .has .ensures, c .before .before .before .get .ensures)
 
 pub is-extended-spec : {M : Type 1} → statement M
 is-extended-spec =

@@ -9,7 +9,7 @@ has-requires-2 : tie.Need-has-requires-2
 has-requires-2 c κs = search needs
 
 returns : tie.Need-returns
-returns c = cc
+returns c = rw (c .has2 .ensures, c .before .has .ensures)
 
 pub is-pointer-spec : {M : Type 1} → statement M
 is-pointer-spec = tie.close (tie.spec has-requires has-requires-2 returns)

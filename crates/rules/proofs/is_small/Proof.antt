@@ -17,7 +17,7 @@ get-requires c κs = search needs
 
 returns : tie.Need-returns
 unfolding small
-returns c = cc
+returns c = rw (c .get .ensures)
 
 pub is-small-spec : {M : Type 1} → statement M
 is-small-spec = tie.close (tie.spec mul-low add-low sub-result get-requires returns)

@@ -4,7 +4,7 @@ use native.Mathlib.Omega.{arith}
 use lib.ListN.{length}
 use denote.Ref.{now}
 use borrow.Author.Needs.{needs}
-use Rattle.rules.specs.Faults.{accessFault}
+use Rattle.access.specs.Faults.{accessFault}
 use Rattle.walk.specs.declared.Reached.the-variants.{Failed}
 use Rattle.walk.specs.Stages.{look}
 use Rattle.walk.specs.Listed.{places}

@@ -15,7 +15,7 @@ test-requires : tie.Need-test-requires
 test-requires c κs = search needs
 
 returns : tie.Need-returns
-returns c = cc
+returns c = rw (c .test .ensures, c .before .has3 .ensures, c .before .before .before .has2 .ensures, c .before .before .before .before .has .ensures)
 
 pub grants-spec : {M : Type 1} → statement M
 grants-spec = tie.close (tie.spec has-requires has-requires-2 has-requires-3 test-requires returns)

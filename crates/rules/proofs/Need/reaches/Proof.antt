@@ -6,13 +6,13 @@ has-requires : tie.Need-has-requires
 has-requires c κs = search needs
 
 returns : tie.Need-returns
-returns c = cc
+returns c = rw (c .if1 .taken, c .before .has .ensures)
 
 test-requires : tie.Need-test-requires
 test-requires c κs = search needs
 
 returns-2 : tie.Need-returns-2
-returns-2 c = cc
+returns-2 c = rw (c .before .if1 .left, c .test .ensures, c .before .before .has .ensures)
 
 pub reaches-spec : {M : Type 1} → statement M
 reaches-spec = tie.close (tie.spec has-requires returns test-requires returns-2)

@@ -1,12 +1,12 @@
 -- What an access asks of a leaf, and the faults that end its walk.
 use mathlib.Core.Bool.{true, false}
 use Prim.Native.Nat.{ℕ, _/_}
-use Rattle.rules.specs.declared.Access.{Access}
 use Rattle.exceptions.specs.declared.Exception.{Exception}
-use Rattle.rules.specs.declared.Guest.{Guest}
 use Rattle.rules.specs.declared.Kind.the-variants.{Load}
 use Rattle.rules.specs.declared.Need.{Need}
 use Rattle.rules.specs.Kind.{by}
+use Rattle.access.specs.declared.Access.{Access}
+use Rattle.access.specs.declared.Guest.{Guest}
 
 -- "The value is the virtual address; the flag is the effective V."
 abbrev pub raised : Access → ℕ → ℕ → ℕ → Exception
