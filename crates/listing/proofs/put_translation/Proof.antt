@@ -6,12 +6,12 @@ use denote.Ref.{now}
 use lib.ListN.{length-set}
 use borrow.Author.Needs.{needs}
 use borrow.Author.Tests.{lt-ltb, le-ltb}
-use Rattle.layout.specs.Layout.{translationWords}
-use Rattle.layout.specs.Taken.{putKind}
+use Rattle.listing.specs.Listing.{translationWords}
+use Rattle.listing.specs.Taken.{putKind}
 use Rattle.layout.proofs.Lengths.{hart-wrong, out-wrong, both-fit}
-use Rattle.layout.proofs.Words.{translation-written}
-use Rattle.layout.proofs.put_translation.Statement.{statement}
-use Rattle.layout.proofs.put_translation.Tie as tie
+use Rattle.listing.proofs.Words.{translation-written}
+use Rattle.listing.proofs.put_translation.Statement.{statement}
+use Rattle.listing.proofs.put_translation.Tie as tie
 
 returns : tie.Need-returns
 unfolding putKind

@@ -1,0 +1,85 @@
+// The word layout of a translation: the kind of access by number, and the result written into a slice.
+ghost use mathlib.Core.Path.{_≡_};
+ghost use mathlib.Core.List.{_++_};
+ghost use lib.ListN.{length, take};
+ghost use Rattle.listing.specs.Listing.{answerWords, readWords, translationWords};
+ghost use Rattle.listing.specs.Taken.{kindOf, putKind};
+use rules::Kind;
+use translate::Answer;
+use translate::Translated;
+use walk::Read;
+
+// The kind of access with a number.
+pub fn kind_of(n: u64) -> Kind
+    ensures { λ r. ⌜ r ≡ kindOf n ⌝ }
+{
+    if n == 0 {
+        return Kind::Fetch;
+    }
+    if n == 1 {
+        return Kind::Load;
+    }
+    Kind::Store
+}
+
+fn answer_words(a: Answer) -> [u64; 6]
+    ensures { λ r. ⌜ r ≡ answerWords a ⌝ }
+{
+    match a {
+        Answer::Address(m) => [0, m.0, 0, 0, 0, 0],
+        Answer::Refused(number) => [1, number, 0, 0, 0, 0],
+        Answer::Fault(f) => [
+            2,
+            f.cause,
+            f.value,
+            f.second,
+            f.word,
+            bits::select(f.flag, 1, 0),
+        ],
+    }
+}
+
+// The list's places, after the first seven words.
+fn put_reads(reads: [Read; 15], out: &mut [u64])
+    requires { ⌜ length (now out) ≡ 67 ⌝ }
+    ensures { λ _. ⌜ now (out .exit) ≡ take 7 (now (out .entry)) ++ readWords reads ⌝ }
+{
+    let mut i: usize = 0;
+    while i < 15 {
+        let r = reads[i];
+        let address = r.address;
+        let at = 7 + 4 * i;
+        out[at] = r.stage;
+        out[at + 1] = r.level;
+        out[at + 2] = address.0;
+        out[at + 3] = r.value;
+        i += 1;
+    }
+}
+
+// A translation's result; 2, and nothing is written, where no kind of access has the number.
+pub fn put_translation(t: Translated, given: usize, kind: u64, out: &mut [u64]) -> u64
+    ensures { λ r. ⌜ (r, now (out .exit)) ≡ putKind given 67 kind (now (out .entry)) (translationWords t) ⌝ }
+{
+    if given != 32 {
+        return 1;
+    }
+    if out.len() != 67 {
+        return 1;
+    }
+    if kind > 2 {
+        return 2;
+    }
+    let answer = t.answer;
+    let reads = t.reads;
+    let a = answer_words(answer);
+    out[0] = a[0];
+    out[1] = a[1];
+    out[2] = a[2];
+    out[3] = a[3];
+    out[4] = a[4];
+    out[5] = a[5];
+    out[6] = t.count as u64;
+    put_reads(reads, &mut *out);
+    0
+}
