@@ -41,11 +41,15 @@ reads-written rs out n e =
     let past : length out ≤ 7 + length (readWords rs) = omega arith in
     sets-eq (readWords rs) out 7 h ∙ ap (λ (r : List ℕ). take 7 out ++ readWords rs ++ r) (drop-of-length-le out past) ∙ append-nil (take 7 out ++ readWords rs)
 
--- the answer and the count, before what follows
-first-seven : (out : List ℕ) (w₀ w₁ w₂ w₃ w₄ w₅ w₆ : ℕ) → 7 ≤ length out → take 7 (sets out 0 (w₀ ∷ w₁ ∷ w₂ ∷ w₃ ∷ w₄ ∷ w₅ ∷ w₆ ∷ [])) ≡ w₀ ∷ w₁ ∷ w₂ ∷ w₃ ∷ w₄ ∷ w₅ ∷ w₆ ∷ []
-first-seven out w₀ w₁ w₂ w₃ w₄ w₅ w₆ h = ap (take 7) (sets-eq (w₀ ∷ w₁ ∷ w₂ ∷ w₃ ∷ w₄ ∷ w₅ ∷ w₆ ∷ []) out 0 h)
+-- the answer's words and the count written before what follows
+module _ (count : ℕ) (out : List ℕ) where
+  pub answer-written : (a : Answer) → 7 ≤ length out → set (sets out 0 (answerWords a)) 6 count ≡ answerWords a ++ (count ∷ drop 7 out)
+  answer-written (Answer.Address m) h = sets-eq (0 ∷ m .0 ∷ 0 ∷ 0 ∷ 0 ∷ 0 ∷ count ∷ []) out 0 h
+  answer-written (Answer.Refused number) h = sets-eq (1 ∷ number ∷ 0 ∷ 0 ∷ 0 ∷ 0 ∷ count ∷ []) out 0 h
+  answer-written (Answer.Fault f) h = sets-eq (2 ∷ f .cause ∷ f .value ∷ f .second ∷ f .word ∷ pick (f .flag) 1 0 ∷ count ∷ []) out 0 h
 
-pub translation-written : (a : Answer) (count : ℕ) (rs : List Read) (out : List ℕ) → length out ≡ 67 → take 7 (sets out 0 (getD (answerWords a) 0 0 ∷ getD (answerWords a) 1 0 ∷ getD (answerWords a) 2 0 ∷ getD (answerWords a) 3 0 ∷ getD (answerWords a) 4 0 ∷ getD (answerWords a) 5 0 ∷ count ∷ [])) ++ readWords rs ≡ answerWords a ++ (count ∷ readWords rs)
-translation-written (Answer.Address m) count rs out e = ap (λ (l : List ℕ). l ++ readWords rs) (first-seven out 0 (m .0) 0 0 0 0 count (omega arith))
-translation-written (Answer.Refused number) count rs out e = ap (λ (l : List ℕ). l ++ readWords rs) (first-seven out 1 number 0 0 0 0 count (omega arith))
-translation-written (Answer.Fault f) count rs out e = ap (λ (l : List ℕ). l ++ readWords rs) (first-seven out 2 (f .cause) (f .value) (f .second) (f .word) (pick (f .flag) 1 0) count (omega arith))
+-- the list after the first seven of them
+pub translation-written : (a : Answer) (count : ℕ) (rest list : List ℕ) → take 7 (answerWords a ++ (count ∷ rest)) ++ list ≡ answerWords a ++ (count ∷ list)
+translation-written (Answer.Address m) count rest list = refl
+translation-written (Answer.Refused number) count rest list = refl
+translation-written (Answer.Fault f) count rest list = refl

@@ -1,7 +1,7 @@
 // The word layout of a translation: the kind of access by number, and the result written into a slice.
 ghost use mathlib.Core.Path.{_≡_};
-ghost use mathlib.Core.List.{_++_};
-ghost use lib.ListN.{length, take};
+ghost use mathlib.Core.List.{_∷_, _++_};
+ghost use lib.ListN.{length, take, drop};
 ghost use Rattle.listing.specs.Listing.{answerWords, readWords, translationWords};
 ghost use Rattle.listing.specs.Taken.{kindOf, putKind};
 use rules::Kind;
@@ -39,6 +39,20 @@ fn answer_words(a: Answer) -> [u64; 6]
     }
 }
 
+// The answer and the count, before the list.
+fn put_answer(a: Answer, count: u64, out: &mut [u64])
+    requires { ⌜ length (now out) ≡ 67 ⌝ }
+    ensures { λ _. ⌜ now (out .exit) ≡ answerWords a ++ (count ∷ drop 7 (now (out .entry))) ⌝ }
+{
+    let ws = answer_words(a);
+    let mut i: usize = 0;
+    while i < 6 {
+        out[i] = ws[i];
+        i += 1;
+    }
+    out[6] = count;
+}
+
 // The list's places, after the first seven words.
 fn put_reads(reads: [Read; 15], out: &mut [u64])
     requires { ⌜ length (now out) ≡ 67 ⌝ }
@@ -72,14 +86,7 @@ pub fn put_translation(t: Translated, given: usize, kind: u64, out: &mut [u64]) 
     }
     let answer = t.answer;
     let reads = t.reads;
-    let a = answer_words(answer);
-    out[0] = a[0];
-    out[1] = a[1];
-    out[2] = a[2];
-    out[3] = a[3];
-    out[4] = a[4];
-    out[5] = a[5];
-    out[6] = t.count as u64;
+    put_answer(answer, t.count as u64, &mut *out);
     put_reads(reads, &mut *out);
     0
 }
