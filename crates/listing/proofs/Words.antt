@@ -41,14 +41,13 @@ reads-written rs out n e =
     let past : length out ≤ 7 + length (readWords rs) = omega arith in
     sets-eq (readWords rs) out 7 h ∙ ap (λ (r : List ℕ). take 7 out ++ readWords rs ++ r) (drop-of-length-le out past) ∙ append-nil (take 7 out ++ readWords rs)
 
--- the answer's words and the count written before what follows
-module _ (count : ℕ) (out : List ℕ) where
-  pub answer-written : (a : Answer) → 7 ≤ length out → set (sets out 0 (answerWords a)) 6 count ≡ answerWords a ++ (count ∷ drop 7 out)
-  answer-written (Answer.Address m) h = sets-eq (0 ∷ m .0 ∷ 0 ∷ 0 ∷ 0 ∷ 0 ∷ count ∷ []) out 0 h
-  answer-written (Answer.Refused number) h = sets-eq (1 ∷ number ∷ 0 ∷ 0 ∷ 0 ∷ 0 ∷ count ∷ []) out 0 h
-  answer-written (Answer.Fault f) h = sets-eq (2 ∷ f .cause ∷ f .value ∷ f .second ∷ f .word ∷ pick (f .flag) 1 0 ∷ count ∷ []) out 0 h
+-- the answer's words and the count, written before what follows
+pub answer-written : (a : Answer) (count : ℕ) (out : List ℕ) → 7 ≤ length out → set (sets out 0 (answerWords a)) 6 count ≡ answerWords a ++ (count ∷ drop 7 out)
+answer-written (Answer.Address m) count out h = sets-eq (0 ∷ m .0 ∷ 0 ∷ 0 ∷ 0 ∷ 0 ∷ count ∷ []) out 0 h
+answer-written (Answer.Refused number) count out h = sets-eq (1 ∷ number ∷ 0 ∷ 0 ∷ 0 ∷ 0 ∷ count ∷ []) out 0 h
+answer-written (Answer.Fault f) count out h = sets-eq (2 ∷ f .cause ∷ f .value ∷ f .second ∷ f .word ∷ pick (f .flag) 1 0 ∷ count ∷ []) out 0 h
 
--- the list after the first seven of them
+-- these seven, and the list after them
 pub translation-written : (a : Answer) (count : ℕ) (rest list : List ℕ) → take 7 (answerWords a ++ (count ∷ rest)) ++ list ≡ answerWords a ++ (count ∷ list)
 translation-written (Answer.Address m) count rest list = refl
 translation-written (Answer.Refused number) count rest list = refl

@@ -71,7 +71,8 @@ fn put_reads(reads: [Read; 15], out: &mut [u64])
     }
 }
 
-// A translation's result; 2, and nothing is written, where no kind of access has the number.
+// Writes a translation's result and returns 0. Writes nothing and returns 1 where a length is wrong, that of the hart's slice
+// (given) or the result's, else 2 where no kind of access has the number.
 pub fn put_translation(t: Translated, given: usize, kind: u64, out: &mut [u64]) -> u64
     ensures { λ r. ⌜ (r, now (out .exit)) ≡ putKind given 67 kind (now (out .entry)) (translationWords t) ⌝ }
 {

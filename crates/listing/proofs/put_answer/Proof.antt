@@ -61,7 +61,7 @@ returns c =
     let w = c .before .before .answer-words in
     let a = c .before .before .before .before .args in
     rw (copied-all (l .out) (w .result) _ (l .i) (l .i) (omega arith) (l .inv .3), w .ensures)
-    (answer-written (a .count) (now (a .out)) (a .a) (omega arith))
+    (answer-written (a .a) (a .count) (now (a .out)) (omega arith))
 
 pub put-answer-spec : {M : Type 1} → statement M
 put-answer-spec =
