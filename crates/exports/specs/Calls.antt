@@ -12,8 +12,10 @@ use Rattle.hart.specs.declared.state.Hart.{Hart}
 use Rattle.hart.specs.declared.event.Step.{Step}
 use Rattle.hart.specs.declared.access.Accessed.{Accessed}
 use Rattle.translate.specs.Translated.{translated}
-use Rattle.layout.specs.Layout.{hartOf, stepWords, accessWords, translationWords}
-use Rattle.layout.specs.Taken.{put, putKind, kindOf}
+use Rattle.layout.specs.Layout.{hartOf, stepWords, accessWords}
+use Rattle.layout.specs.Taken.{put}
+use Rattle.listing.specs.Listing.{translationWords}
+use Rattle.listing.specs.Taken.{putKind, kindOf}
 
 -- an event on a hart's words
 abbrev pub onStep : (Hart → Step) → (h out : List ℕ) → ℕ × List ℕ

@@ -15,7 +15,7 @@ pub extern "C" fn balcumentri_translate(
 ) -> u64
     ensures { λ r. ⌜ (r, now (out .exit)) ≡ onTranslation (now (h .entry)) base (now (bytes .entry)) kind address width (now (out .entry)) ⌝ }
 {
-    let k = layout::kind_of(kind);
+    let k = listing::kind_of(kind);
     let t = translate::translate(layout::hart_of(h), base, bytes, k, address, width);
-    layout::put_translation(t, h.len(), kind, &mut *out)
+    listing::put_translation(t, h.len(), kind, &mut *out)
 }

@@ -1,19 +1,14 @@
 -- Words written one after the other are the definition's. Assumes nothing.
 use mathlib.Core.Path.{_≡_, refl, sym, ap, _∙_}
 use mathlib.Core.List.{List, [], _∷_, _++_, append-nil}
-use Prim.Native.Nat.{ℕ, suc, _+_, _*_, _<_, _≤_}
+use Prim.Native.Nat.{ℕ, suc, _+_, _<_, _≤_}
 use native.Mathlib.Omega.{arith}
 use lib.ListN.{length, getD, take, drop, set, drop-of-length-le}
 use lib.Seq.{drop-cons, drop-at, length-take-le, length-front, sets, sets-eq, length-sets}
-use Rattle.bits.specs.Field.{pick}
-use Rattle.walk.specs.declared.Read.{Read}
 use Rattle.hart.specs.declared.state.Hart.{Hart}
 use Rattle.hart.specs.declared.event.Outcome.{Outcome}
 use Rattle.hart.specs.declared.event.Outcome.the-variants.{Done, Trapped, Refused}
-use Rattle.translate.specs.declared.Answer.{Answer}
-use Rattle.walk.specs.Tree.{item}
-use Rattle.walk.specs.Stages.{machine}
-use Rattle.layout.specs.Layout.{words, said, outcomeWords, answerWords, readWords}
+use Rattle.layout.specs.Layout.{words, said, outcomeWords}
 use Rattle.layout.specs.Taken.{put}
 use Rattle.layout.proofs.Lengths.{both-fit}
 
@@ -67,43 +62,3 @@ two-words (Refused number) = refl
 
 pub hart-back : (h : Hart) → said (words h) ≡ h
 hart-back h = refl
-
--- ---- the list
-
--- what stands past a list's end
-abbrev pub none : Read
-none = item 0 0 (machine 0) 0
-
--- one read written: what is left to write
-pub listed : (out : List ℕ) (rs : List Read) (whole : List ℕ) (i at i′ at′ : ℕ) → i < length rs → i′ ≡ suc i → at′ ≡ at + 4 → sets out at (readWords (drop i rs)) ≡ whole → sets (set (set (set (set out at (getD rs i none .stage)) (at + 1) (getD rs i none .level)) (at + 2) (getD rs i none .address .0)) (at + 3) (getD rs i none .value)) at′ (readWords (drop i′ rs)) ≡ whole
-listed out rs whole i at i′ at′ h p q e =
-    let one : at + 1 ≡ suc at = omega arith in
-    let two : at + 2 ≡ suc (suc at) = omega arith in
-    let three : at + 3 ≡ suc (suc (suc at)) = omega arith in
-    let four : at′ ≡ suc (suc (suc (suc at))) = omega arith in
-    rw (one, two, three, four, p) (rw (drop-cons rs i none h) at e)
-
--- all written
-pub listed-all : (out : List ℕ) (rs : List Read) (whole : List ℕ) (i at : ℕ) → length rs ≤ i → sets out at (readWords (drop i rs)) ≡ whole → out ≡ whole
-listed-all out rs whole i at h e = rw (drop-of-length-le rs h) at e
-
-pub length-readWords : (rs : List Read) → length (readWords rs) ≡ 4 * length rs
-length-readWords [] = refl
-length-readWords (r ∷ rs) = omega (arith, length-readWords rs)
-
--- the list written after the first seven words
-pub reads-written : (rs : List Read) (out : List ℕ) → length rs ≡ 15 → length out ≡ 67 → sets out 7 (readWords rs) ≡ take 7 out ++ readWords rs
-reads-written rs out n e =
-    let l : length (readWords rs) ≡ 60 = omega (arith, length-readWords rs) in
-    let h : 7 + length (readWords rs) ≤ length out = omega arith in
-    let past : length out ≤ 7 + length (readWords rs) = omega arith in
-    sets-eq (readWords rs) out 7 h ∙ ap (λ (r : List ℕ). take 7 out ++ readWords rs ++ r) (drop-of-length-le out past) ∙ append-nil (take 7 out ++ readWords rs)
-
--- the answer and the count, before what follows
-first-seven : (out : List ℕ) (w₀ w₁ w₂ w₃ w₄ w₅ w₆ : ℕ) → 7 ≤ length out → take 7 (sets out 0 (w₀ ∷ w₁ ∷ w₂ ∷ w₃ ∷ w₄ ∷ w₅ ∷ w₆ ∷ [])) ≡ w₀ ∷ w₁ ∷ w₂ ∷ w₃ ∷ w₄ ∷ w₅ ∷ w₆ ∷ []
-first-seven out w₀ w₁ w₂ w₃ w₄ w₅ w₆ h = ap (take 7) (sets-eq (w₀ ∷ w₁ ∷ w₂ ∷ w₃ ∷ w₄ ∷ w₅ ∷ w₆ ∷ []) out 0 h)
-
-pub translation-written : (a : Answer) (count : ℕ) (rs : List Read) (out : List ℕ) → length out ≡ 67 → take 7 (sets out 0 (getD (answerWords a) 0 0 ∷ getD (answerWords a) 1 0 ∷ getD (answerWords a) 2 0 ∷ getD (answerWords a) 3 0 ∷ getD (answerWords a) 4 0 ∷ getD (answerWords a) 5 0 ∷ count ∷ [])) ++ readWords rs ≡ answerWords a ++ (count ∷ readWords rs)
-translation-written (Answer.Address m) count rs out e = ap (λ (l : List ℕ). l ++ readWords rs) (first-seven out 0 (m .0) 0 0 0 0 count (omega arith))
-translation-written (Answer.Refused number) count rs out e = ap (λ (l : List ℕ). l ++ readWords rs) (first-seven out 1 number 0 0 0 0 count (omega arith))
-translation-written (Answer.Fault f) count rs out e = ap (λ (l : List ℕ). l ++ readWords rs) (first-seven out 2 (f .cause) (f .value) (f .second) (f .word) (pick (f .flag) 1 0) count (omega arith))

@@ -1,17 +1,14 @@
--- The word layout: how a hart, what an event comes to and a translation travel as words.
+-- The word layout: how a hart, and what an event comes to, travel as words. (A translation's words: the crate listing.)
 use mathlib.Core.List.{List, [], _∷_, _++_}
 use Prim.Native.Nat.{ℕ}
 use lib.Dec.{eqb}
 use lib.ListN.{length, getD, drop, replicate}
 use Rattle.bits.specs.Field.{pick}
-use Rattle.walk.specs.declared.Read.{Read}
 use Rattle.hart.specs.declared.state.Hart.{Hart}
 use Rattle.hart.specs.declared.event.Outcome.{Outcome}
 use Rattle.hart.specs.declared.event.Outcome.the-variants.{Done, Trapped, Refused}
 use Rattle.hart.specs.declared.event.Step.{Step}
 use Rattle.hart.specs.declared.access.Accessed.{Accessed}
-use Rattle.translate.specs.declared.Answer.{Answer}
-use Rattle.translate.specs.declared.Translated.{Translated}
 
 -- A hart, 32 words: V, privilege, pc, then the twenty-nine registers in the table's order.
 abbrev pub words : Hart → List ℕ
@@ -37,18 +34,3 @@ stepWords s = words (s .hart) ++ outcomeWords (s .outcome)
 -- A register access's result, 35 words: the same, and the value answered.
 unfoldable pub accessWords : Accessed → List ℕ
 accessWords a = stepWords (record { hart = a .hart; outcome = a .outcome }) ++ (a .value ∷ [])
-
--- A translation's answer, 6 words: 0 an address; 1 a refusal number; 2 a fault's cause, value, second value, word and flag.
-abbrev pub answerWords : Answer → List ℕ
-answerWords (Answer.Address m) = 0 ∷ m .0 ∷ 0 ∷ 0 ∷ 0 ∷ 0 ∷ []
-answerWords (Answer.Refused number) = 1 ∷ number ∷ 0 ∷ 0 ∷ 0 ∷ 0 ∷ []
-answerWords (Answer.Fault f) = 2 ∷ f .cause ∷ f .value ∷ f .second ∷ f .word ∷ pick (f .flag) 1 0 ∷ []
-
--- The list's places, 4 words each: stage, level, machine address and value.
-abbrev pub readWords : List Read → List ℕ
-readWords [] = []
-readWords (r ∷ rs) = r .stage ∷ r .level ∷ r .address .0 ∷ r .value ∷ readWords rs
-
--- A translation's result, 67 words: the answer, the count, and the fifteen places of the list.
-unfoldable pub translationWords : Translated → List ℕ
-translationWords t = answerWords (t .answer) ++ (t .count ∷ readWords (t .reads))

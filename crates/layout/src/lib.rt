@@ -1,30 +1,11 @@
-// The word layout, in and out: a hart is read out of a slice, and results are written into one.
+// The word layout of a hart and of what an event comes to, in and out: a hart is read out of a slice, and results are written into one.
 ghost use mathlib.Core.Path.{_≡_};
-ghost use mathlib.Core.List.{_++_};
-ghost use lib.ListN.{length, take};
-ghost use Rattle.layout.specs.Layout.{words, hartOf, outcomeWords, stepWords, accessWords, answerWords, readWords, translationWords};
-ghost use Rattle.layout.specs.Taken.{kindOf, put, putKind};
+ghost use Rattle.layout.specs.Layout.{words, hartOf, outcomeWords, stepWords, accessWords};
+ghost use Rattle.layout.specs.Taken.{put};
 use hart::access::Accessed;
 use hart::event::Outcome;
 use hart::event::Step;
 use hart::state::Hart;
-use rules::Kind;
-use translate::Answer;
-use translate::Translated;
-use walk::Read;
-
-// The kind of access with a number.
-pub fn kind_of(n: u64) -> Kind
-    ensures { λ r. ⌜ r ≡ kindOf n ⌝ }
-{
-    if n == 0 {
-        return Kind::Fetch;
-    }
-    if n == 1 {
-        return Kind::Load;
-    }
-    Kind::Store
-}
 
 // The hart that some words say.
 pub fn hart_of(ws: &[u64]) -> Hart
@@ -119,66 +100,4 @@ pub fn put_access(a: Accessed, given: usize, out: &mut [u64]) -> u64
     let outcome = a.outcome;
     out[34] = a.value;
     put_step(Step { hart, outcome }, given, &mut out[..34])
-}
-
-fn answer_words(a: Answer) -> [u64; 6]
-    ensures { λ r. ⌜ r ≡ answerWords a ⌝ }
-{
-    match a {
-        Answer::Address(m) => [0, m.0, 0, 0, 0, 0],
-        Answer::Refused(number) => [1, number, 0, 0, 0, 0],
-        Answer::Fault(f) => [
-            2,
-            f.cause,
-            f.value,
-            f.second,
-            f.word,
-            bits::select(f.flag, 1, 0),
-        ],
-    }
-}
-
-// The list's places, after the first seven words.
-fn put_reads(reads: [Read; 15], out: &mut [u64])
-    requires { ⌜ length (now out) ≡ 67 ⌝ }
-    ensures { λ _. ⌜ now (out .exit) ≡ take 7 (now (out .entry)) ++ readWords reads ⌝ }
-{
-    let mut i: usize = 0;
-    while i < 15 {
-        let r = reads[i];
-        let address = r.address;
-        let at = 7 + 4 * i;
-        out[at] = r.stage;
-        out[at + 1] = r.level;
-        out[at + 2] = address.0;
-        out[at + 3] = r.value;
-        i += 1;
-    }
-}
-
-// A translation's result; 2, and nothing is written, where no kind of access has the number.
-pub fn put_translation(t: Translated, given: usize, kind: u64, out: &mut [u64]) -> u64
-    ensures { λ r. ⌜ (r, now (out .exit)) ≡ putKind given 67 kind (now (out .entry)) (translationWords t) ⌝ }
-{
-    if given != 32 {
-        return 1;
-    }
-    if out.len() != 67 {
-        return 1;
-    }
-    if kind > 2 {
-        return 2;
-    }
-    let answer = t.answer;
-    let reads = t.reads;
-    let a = answer_words(answer);
-    out[0] = a[0];
-    out[1] = a[1];
-    out[2] = a[2];
-    out[3] = a[3];
-    out[4] = a[4];
-    out[5] = a[5];
-    out[6] = t.count as u64;
-    put_reads(reads, &mut *out);
-    0
 }

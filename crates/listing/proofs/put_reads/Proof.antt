@@ -5,10 +5,10 @@ use lib.ListN.{length, drop, length-set}
 use lib.Seq.{sets}
 use denote.Ref.{now}
 use borrow.Author.Needs.{needs}
-use Rattle.layout.specs.Layout.{readWords}
-use Rattle.layout.proofs.Words.{listed, listed-all, reads-written}
-use Rattle.layout.proofs.put_reads.Statement.{statement}
-use Rattle.layout.proofs.put_reads.Tie as tie
+use Rattle.listing.specs.Listing.{readWords}
+use Rattle.listing.proofs.Words.{listed, listed-all, reads-written}
+use Rattle.listing.proofs.put_reads.Statement.{statement}
+use Rattle.listing.proofs.put_reads.Tie as tie
 
 abbrev Inv-loop : tie.InvT-loop
 Inv-loop out₀ reads i₀ out i = (i ≤ 15) × (length reads ≡ 15) × (length out ≡ 67) × (sets out (7 + 4 * i) (readWords (drop i reads)) ≡ sets out₀ 7 (readWords reads))

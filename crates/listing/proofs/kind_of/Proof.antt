@@ -1,7 +1,7 @@
 use borrow.Author.Tests.{eq-eqb, ne-eqb}
-use Rattle.layout.specs.Taken.{kindOf}
-use Rattle.layout.proofs.kind_of.Statement.{statement}
-use Rattle.layout.proofs.kind_of.Tie as tie
+use Rattle.listing.specs.Taken.{kindOf}
+use Rattle.listing.proofs.kind_of.Statement.{statement}
+use Rattle.listing.proofs.kind_of.Tie as tie
 
 returns : tie.Need-returns
 unfolding kindOf

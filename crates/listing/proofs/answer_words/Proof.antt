@@ -1,6 +1,6 @@
 use borrow.Author.Needs.{needs}
-use Rattle.layout.proofs.answer_words.Statement.{statement}
-use Rattle.layout.proofs.answer_words.Tie as tie
+use Rattle.listing.proofs.answer_words.Statement.{statement}
+use Rattle.listing.proofs.answer_words.Tie as tie
 
 enum-known-a : tie.Need-enum-known-a
 enum-known-a c = search needs

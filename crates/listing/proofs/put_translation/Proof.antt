@@ -1,0 +1,51 @@
+use mathlib.Core.Path.{ap}
+use mathlib.Core.List.{List}
+use Prim.Native.Nat.{ℕ}
+use borrow.Author.Needs.{needs}
+use borrow.Author.Tests.{lt-ltb, le-ltb}
+use Rattle.listing.specs.Listing.{translationWords}
+use Rattle.listing.specs.Taken.{putKind}
+use Rattle.layout.proofs.Lengths.{hart-wrong, out-wrong, both-fit}
+use Rattle.listing.proofs.Words.{translation-written}
+use Rattle.listing.proofs.put_translation.Statement.{statement}
+use Rattle.listing.proofs.put_translation.Tie as tie
+
+returns : tie.Need-returns
+unfolding putKind
+returns c = rw (hart-wrong _ _ 67 (c .if1 .taken))
+
+returns-2 : tie.Need-returns-2
+unfolding putKind
+returns-2 c = rw (out-wrong _ _ 67 (c .before .if1 .left) (c .if2 .taken))
+
+returns-3 : tie.Need-returns-3
+unfolding putKind
+returns-3 c = rw (both-fit _ _ 67 (c .before .before .if1 .left) (c .before .if2 .left), lt-ltb _ _ (c .if3 .taken))
+
+put-answer-requires : tie.Need-put-answer-requires
+put-answer-requires c κs = search needs
+
+put-reads-requires : tie.Need-put-reads-requires
+put-reads-requires c κs = search needs
+
+same-length : tie.Need-same-length
+same-length c = search needs
+
+returns-4 : tie.Need-returns-4
+unfolding putKind translationWords
+returns-4 c =
+    let a = c .before .before .before .before .before .before .before .before .before .before .before .before .before .args in
+    rw (both-fit _ _ 67 (c .before .before .before .before .before .before .before .before .before .before .before .if1 .left) (c .before .before .before .before .before .before .before .before .before .before .if2 .left), le-ltb _ _ (c .before .before .before .before .before .before .before .before .before .if3 .left), c .before .before .put-reads .ensures, c .before .before .before .before .before .before .put-answer .ensures)
+    (ap (λ (ws : List ℕ). (0, ws)) (translation-written (a .t .answer) _ _ _))
+
+pub put-translation-spec : {M : Type 1} → statement M
+put-translation-spec =
+    tie.close
+    (tie.spec
+    returns
+    returns-2
+    returns-3
+    put-answer-requires
+    put-reads-requires
+    same-length
+    returns-4)
