@@ -1,19 +1,120 @@
 // The known replays of registers, traps and returns that are run and compared, and a tour through all five modes and all
-// three targets of a trap. A line for each event: what it came to, then V, privilege and pc. Numbers are hexadecimal.
+// three targets of a trap. A line for each event: its name (docs/REPLAY.md), its operands but for zeros, what it came to, the
+// value answered, then V, privilege and pc. Numbers are hexadecimal.
 use exceptions::Exception;
 use hart::access::Accessed;
 use hart::event::Outcome;
 use hart::event::Step;
+use hart::event::cause_only;
 use hart::state::Hart;
 use libc::STDOUT_FILENO;
+
+// The events, by the place of their names. A set or a clear writes.
+const READ: u64 = 0;
+
+const WRITE: u64 = 1;
+
+const SET: u64 = 2;
+
+const CLEAR: u64 = 3;
+
+const TRAP: u64 = 4;
+
+const ECALL: u64 = 5;
+
+const EBREAK: u64 = 6;
+
+const MRET: u64 = 7;
+
+const SRET: u64 = 8;
+
+const WFI: u64 = 9;
+
+const SFENCE_VMA: u64 = 10;
+
+const HFENCE_VVMA: u64 = 11;
+
+const HFENCE_GVMA: u64 = 12;
+
+// Eleven letters each.
+const NAMES: [u8; 143] = *b"read       write      set        clear      trap       \
+ecall      ebreak     mret       sret       wfi        \
+sfence.vma hfence.vvmahfence.gvma";
+
+// A row of the table is an event, with a register's number or a trap's cause from bit 4 up, and a value from bit 20 up.
+const NUMBER: u64 = 4;
+
+const VALUE: u64 = 20;
+
+const TOUR: [u64; 36] = [
+    // Register 1000 gives refusal 5.
+    READ | 0x1000 << NUMBER,
+    // M hands all that it can to HS and VS, but for the environment call from HS.
+    WRITE | 0x302 << NUMBER | 0xF0_B5FF << VALUE,
+    WRITE | 0x602 << NUMBER | 0xB1FF << VALUE,
+    WRITE | 0x305 << NUMBER | 0x3001 << VALUE,
+    WRITE | 0x105 << NUMBER | 0x1001 << VALUE,
+    WRITE | 0x205 << NUMBER | 0x2001 << VALUE,
+    // M to HS by MRET; M's numbers are out of reach there.
+    WRITE | 0x341 << NUMBER | 0x4000 << VALUE,
+    SET | 0x300 << NUMBER | 0x800 << VALUE,
+    MRET,
+    READ | 0x341 << NUMBER,
+    // HS to U by SRET, and back by a call.
+    CLEAR | 0x100 << NUMBER | 0x100 << VALUE,
+    WRITE | 0x141 << NUMBER | 0x5000 << VALUE,
+    SRET,
+    ECALL,
+    READ | 0x142 << NUMBER,
+    // HS to VS by SRET.
+    SET | 0x600 << NUMBER | 0x80 << VALUE,
+    SET | 0x100 << NUMBER | 0x100 << VALUE,
+    WRITE | 0x141 << NUMBER | 0x6000 << VALUE,
+    SRET,
+    // VS to VU by SRET, and back by a breakpoint.
+    WRITE | 0x141 << NUMBER | 0x7000 << VALUE,
+    SRET,
+    EBREAK,
+    READ | 0x142 << NUMBER,
+    READ | 0x143 << NUMBER,
+    // VS's own numbers are out of reach in VS: into HS, where they are not.
+    READ | 0x241 << NUMBER,
+    READ | 0x241 << NUMBER,
+    READ | 0x600 << NUMBER,
+    WFI,
+    // Fences in HS, and into M by a call.
+    SFENCE_VMA,
+    HFENCE_VVMA,
+    HFENCE_GVMA,
+    ECALL,
+    READ | 0x342 << NUMBER,
+    // A request that is delivered, and one that can't arise.
+    TRAP | 21 << NUMBER | 0x4000_1008 << VALUE,
+    READ | 0x34B << NUMBER,
+    TRAP | 8 << NUMBER,
+];
 
 fn text(s: &[u8]) {
     io::write_all(STDOUT_FILENO, s);
 }
 
 fn number(n: u64) {
-    io::write_all(STDOUT_FILENO, b" ");
+    text(b" ");
     io::print_hex(STDOUT_FILENO, n, 1);
+}
+
+fn show_event(event: u64, n: u64, x: u64) {
+    let names = NAMES;
+    if event <= HFENCE_GVMA {
+        let at = 11 * event as usize;
+        text(&names[at..at + 11]);
+    }
+    if n != 0 {
+        number(n);
+    }
+    if x != 0 {
+        number(x);
+    }
 }
 
 fn show_outcome(o: Outcome) {
@@ -38,120 +139,83 @@ fn show_hart(h: Hart) {
     text(b"\n");
 }
 
-// The name of an event, what it came to, and the hart that it left, which is handed on.
-fn event(name: &[u8], s: Step) -> Hart {
-    let h = s.hart;
-    text(name);
-    let outcome = s.outcome;
-    show_outcome(outcome);
-    show_hart(h);
-    h
+// A trap request: the load guest-page fault of a guest entry, or a cause alone.
+fn request(cause: u64, value: u64) -> Exception {
+    if cause == 21 {
+        return Exception {
+            cause,
+            value,
+            second: value >> 2,
+            word: 0x3000,
+            flag: true,
+        };
+    }
+    cause_only(cause)
 }
 
-fn access(name: &[u8], a: Accessed) -> Hart {
-    let h = a.hart;
-    text(name);
+fn instruction(h: Hart, event: u64, n: u64, x: u64) -> Step {
+    match event {
+        TRAP => h.trap(request(n, x)),
+        ECALL => h.ecall(),
+        EBREAK => h.ebreak(),
+        MRET => h.mret(),
+        SRET => h.sret(),
+        WFI => h.wfi(),
+        SFENCE_VMA => h.sfence_vma(),
+        HFENCE_VVMA => h.hfence_vvma(),
+        _ => h.hfence_gvma(),
+    }
+}
+
+// An event that is no access answers 0.
+fn answered(s: Step) -> Accessed {
+    let hart = s.hart;
+    let outcome = s.outcome;
+    Accessed {
+        hart,
+        outcome,
+        value: 0,
+    }
+}
+
+fn act(h: Hart, event: u64, n: u64, x: u64) -> Accessed {
+    match event {
+        READ => h.read(n),
+        WRITE => h.write(n, x),
+        SET => h.set(n, x, true),
+        CLEAR => h.clear(n, x, true),
+        _ => answered(instruction(h, event, n, x)),
+    }
+}
+
+// Does a row's event, writes its line, and hands on the hart that it left.
+fn step(h: Hart, row: u64) -> Hart {
+    let event = row % 16;
+    let n = (row >> NUMBER) % 0x1_0000;
+    let x = row >> VALUE;
+    show_event(event, n, x);
+    let a = act(h, event, n, x);
     let outcome = a.outcome;
     show_outcome(outcome);
     text(b" value");
     number(a.value);
-    show_hart(h);
-    h
-}
-
-// Register FFF gives cause 2, 1000 refusal 5.
-fn numbers(h: Hart) {
-    access(b"read fff", h.read(0xFFF));
-    access(b"read 1000", h.read(0x1000));
-}
-
-// M hands all that it can to HS and VS, but for the environment call from HS.
-fn handed_over(h: Hart) -> Hart {
-    let h = access(b"write medeleg", h.write(0x302, 0xF0_B5FF));
-    let h = access(b"write hedeleg", h.write(0x602, 0xB1FF));
-    let h = access(b"write mtvec", h.write(0x305, 0x3001));
-    let h = access(b"write stvec", h.write(0x105, 0x1001));
-    access(b"write vstvec", h.write(0x205, 0x2001))
-}
-
-// M to HS by MRET; M's numbers are out of reach there.
-fn to_hs(h: Hart) -> Hart {
-    let h = access(b"write mepc", h.write(0x341, 0x4000));
-    let h = access(b"set mstatus", h.set(0x300, 0x800, true));
-    let h = event(b"mret to HS", h.mret());
-    access(b"read mepc in HS", h.read(0x341))
-}
-
-// HS to U by SRET, and back by a call.
-fn to_u(h: Hart) -> Hart {
-    let h = access(b"clear sstatus", h.clear(0x100, 0x100, true));
-    let h = access(b"write sepc", h.write(0x141, 0x5000));
-    let h = event(b"sret to U", h.sret());
-    let h = event(b"ecall in U", h.ecall());
-    access(b"read scause", h.read(0x142))
-}
-
-// HS to VS by SRET.
-fn to_vs(h: Hart) -> Hart {
-    let h = access(b"set hstatus", h.set(0x600, 0x80, true));
-    let h = access(b"set sstatus", h.set(0x100, 0x100, true));
-    let h = access(b"write sepc", h.write(0x141, 0x6000));
-    event(b"sret to VS", h.sret())
-}
-
-// VS to VU by SRET, and back by a breakpoint.
-fn to_vu(h: Hart) -> Hart {
-    let h = access(b"write sepc in VS", h.write(0x141, 0x7000));
-    let h = event(b"sret to VU", h.sret());
-    let h = event(b"ebreak in VU", h.ebreak());
-    let h = access(b"read scause in VS", h.read(0x142));
-    access(b"read stval in VS", h.read(0x143))
-}
-
-// VS's own numbers are out of reach in VS: into HS, where they are not.
-fn out_of_guest(h: Hart) -> Hart {
-    let h = access(b"read vsepc in VS", h.read(0x241));
-    let h = access(b"read vsepc in HS", h.read(0x241));
-    let h = access(b"read hstatus", h.read(0x600));
-    event(b"wfi in HS", h.wfi())
-}
-
-// Fences in HS, and into M by a call.
-fn to_m(h: Hart) -> Hart {
-    let h = event(b"sfence.vma in HS", h.sfence_vma());
-    let h = event(b"hfence.vvma in HS", h.hfence_vvma());
-    let h = event(b"hfence.gvma in HS", h.hfence_gvma());
-    let h = event(b"ecall in HS", h.ecall());
-    access(b"read mcause", h.read(0x342))
-}
-
-// A request that is delivered, and one that can't arise.
-fn requests(h: Hart) -> Hart {
-    let fault = Exception {
-        cause: 21,
-        value: 0x4000_1008,
-        second: 0x1000_0402,
-        word: 0x3000,
-        flag: true,
-    };
-    let h = event(b"trap 15 in M", h.trap(fault));
-    let h = access(b"read mtval2", h.read(0x34B));
-    let call = Exception {
-        cause: 8,
-        value: 0,
-        second: 0,
-        word: 0,
-        flag: false,
-    };
-    event(b"trap 8 in M", h.trap(call))
+    let next = a.hart;
+    show_hart(next);
+    next
 }
 
 fn main() {
-    let h = Hart::reset(0, 3, 0x1000);
-    numbers(h);
-    let h = to_u(to_hs(handed_over(h)));
-    let h = out_of_guest(to_vu(to_vs(h)));
-    let mut odd = requests(to_m(h));
-    odd.pc = 2;
-    event(b"mret, pc 2", odd.mret());
+    let start = Hart::reset(0, 3, 0x1000);
+    // Register FFF gives cause 2.
+    step(start, READ | 0xFFF << NUMBER);
+    let tour = TOUR;
+    let mut h = start;
+    let mut i: usize = 0;
+    while i < 36 {
+        h = step(h, tour[i]);
+        i = i + 1;
+    }
+    // A pc that fails check 2.
+    h.pc = 2;
+    step(h, MRET);
 }

@@ -1,4 +1,6 @@
 // Document 01's replays of the translation: an image's length; the guest whose hgatp has root PPN 80004 hex; the deepest walk.
+// Answers and reads are written as in docs/REPLAY.md.
+use exceptions::Exception;
 use hart::state::Hart;
 use libc::STDOUT_FILENO;
 use registers::places;
@@ -8,63 +10,89 @@ use translate::Translated;
 use translate::translate;
 use walk::Read;
 
-fn byte(v: u64, place: u64) -> u8 {
-    if place < 8 {
-        return ((v >> (8 * place)) % 256) as u8;
-    }
-    0
-}
+// A row of the table is an entry, with its offset in the image from bit 32 up, and from bit 60 up what is done once it is there.
+const AT: u64 = 32;
 
-// Puts an entry's eight bytes into an image at an offset, if there is room.
-fn put(image: &mut [u8], at: usize, v: u64) {
-    if image.len() < 8 {
-        return;
-    }
-    if image.len() - 8 < at {
-        return;
-    }
+const DO: u64 = 60;
+
+const LOAD: u64 = 1;
+
+const STORE: u64 = 2;
+
+const DEEPEST: u64 = 3;
+
+const ENTRIES: [u64; 15] = [
+    // The guest with root PPN 80004: two pointers, and the three leaves.
+    0x4008 << AT | 0x2000_2001,
+    0x8000 << AT | 0x2000_2401,
+    LOAD << DO | 0x9008 << AT | 0x2000_40D7,
+    LOAD << DO | 0x9008 << AT | 0x2000_40C7,
+    LOAD << DO | 0x9008 << AT | 0x2000_4057,
+    STORE << DO | 0x9008 << AT | 0x2000_4057,
+    // The deepest walk: guest page p is the image's page p. The second stage: its root of 16 KiB, and two tables.
+    0x0000 << AT | 0x2000_1001,
+    0x4000 << AT | 0x2000_1401,
+    0x5030 << AT | 0x2000_18D7,
+    0x5038 << AT | 0x2000_1CD7,
+    0x5040 << AT | 0x2000_20D7,
+    0x5048 << AT | 0x2000_24D7,
+    // The first stage: pages 6, 7 and 8, and the page itself.
+    0x6000 << AT | 0x1C01,
+    0x7000 << AT | 0x2001,
+    DEEPEST << DO | 0x8008 << AT | 0x24C7,
+];
+
+// Puts a row's entry into the image: eight bytes, little-endian.
+fn put(image: &mut [u8; 0x1_1000], row: u64) {
+    let at = (row >> AT) as usize % 0x1_0000;
+    let mut rest = row % 0x1_0000_0000;
     let mut i: usize = 0;
     while i < 8 {
-        image[at + i] = byte(v, i as u64);
+        image[at + i] = (rest % 256) as u8;
+        rest = rest / 256;
         i = i + 1;
     }
 }
 
-// A reset hart in VS with two registers set.
-fn guest(vsatp: u64, hgatp: u64) -> Hart {
-    let mut h = Hart::reset(1, 1, 0);
-    h.regs[places::VSATP] = vsatp;
-    h.regs[places::HGATP] = hgatp;
-    h
+fn text(s: &[u8]) {
+    io::write_all(STDOUT_FILENO, s);
 }
 
-fn word(label: &[u8], n: u64) {
-    io::write_all(STDOUT_FILENO, label);
+fn number(n: u64) {
+    text(b" ");
     io::print_hex(STDOUT_FILENO, n, 1);
+}
+
+fn write_fault(f: Exception) {
+    text(b"fault");
+    number(f.cause);
+    number(f.value);
+    number(f.second);
+    number(f.word);
+    number(f.flag as u64);
 }
 
 fn write_answer(answer: Answer) {
     match answer {
-        Answer::Address(m) => word(b"address ", m.0),
-        Answer::Refused(n) => word(b"refused ", n),
-        Answer::Fault(f) => {
-            word(b"fault ", f.cause);
-            word(b" value ", f.value);
-            word(b" second ", f.second);
-            word(b" word ", f.word);
-            word(b" flag ", f.flag as u64);
+        Answer::Address(m) => {
+            text(b"address");
+            number(m.0);
         }
+        Answer::Refused(n) => {
+            text(b"refused");
+            number(n);
+        }
+        Answer::Fault(f) => write_fault(f),
     }
-    io::write_all(STDOUT_FILENO, b"\n");
 }
 
 fn write_read(r: Read) {
     let m = r.address;
-    word(b"  stage ", r.stage);
-    word(b" level ", r.level);
-    word(b" at ", m.0);
-    word(b" value ", r.value);
-    io::write_all(STDOUT_FILENO, b"\n");
+    text(b"\nread");
+    number(r.stage);
+    number(r.level);
+    number(m.0);
+    number(r.value);
 }
 
 // Writes the answer on a line, then each read on one of its own; all numbers in hex.
@@ -80,50 +108,59 @@ fn write(t: Translated) {
         }
         i = i + 1;
     }
+    text(b"\n");
 }
 
 fn write_length(len: u64) {
     io::print_hex(STDOUT_FILENO, len, 1);
     if image::refused(0, len) {
-        io::write_all(STDOUT_FILENO, b" refused\n");
+        text(b" refused\n");
     } else {
-        io::write_all(STDOUT_FILENO, b" taken\n");
+        text(b" taken\n");
     }
 }
 
-// An image of ten pages whose walk takes all fifteen reads: guest page p is the image's page p.
-fn write_deepest() {
-    let base = 0x8000_0000;
-    let mut image = [0u8; 0xA000];
-    // the second stage: its root of 16 KiB, and two tables
-    put(&mut image, 0x0000, 0x2000_1001);
-    put(&mut image, 0x4000, 0x2000_1401);
-    put(&mut image, 0x5030, 0x2000_18D7);
-    put(&mut image, 0x5038, 0x2000_1CD7);
-    put(&mut image, 0x5040, 0x2000_20D7);
-    put(&mut image, 0x5048, 0x2000_24D7);
-    // the first stage: pages 6, 7 and 8, and the page itself
-    put(&mut image, 0x6000, 0x1C01);
-    put(&mut image, 0x7000, 0x2001);
-    put(&mut image, 0x8008, 0x24C7);
-    let h = guest(0x8000_0000_0000_0006, 0x8000_0000_0008_0000);
-    write(translate(h, base, &image, Kind::Load, 0x1008, 8));
+// A reset hart in VS with two registers set has an access of 8 bytes.
+fn replay(image: &[u8], vsatp: u64, hgatp: u64, kind: Kind, address: u64) {
+    let mut h = Hart::reset(1, 1, 0);
+    h.regs[places::VSATP] = vsatp;
+    h.regs[places::HGATP] = hgatp;
+    write(translate(h, 0x8000_0000, image, kind, address, 8));
+}
+
+// The walk that takes all fifteen reads, in an image of ten pages.
+fn deepest(image: &[u8]) {
+    if 0xA000 <= image.len() {
+        replay(
+            &image[0..0xA000],
+            0x8000_0000_0000_0006,
+            0x8000_0000_0008_0000,
+            Kind::Load,
+            0x1008,
+        );
+    }
+}
+
+// What a row asks for.
+fn access(image: &[u8; 0x1_1000], row: u64) {
+    match row >> DO {
+        LOAD => replay(image, 0, 0x8000_0000_0008_0004, Kind::Load, 0x4000_1008),
+        STORE => replay(image, 0, 0x8000_0000_0008_0004, Kind::Store, 0x4000_1008),
+        DEEPEST => deepest(image),
+        _ => {}
+    }
 }
 
 fn main() {
     write_length(0x400_0000);
     write_length(0x400_1000);
-    let base = 0x8000_0000;
-    let h = guest(0, 0x8000_0000_0008_0004);
+    let entries = ENTRIES;
     let mut image = [0u8; 0x1_1000];
-    put(&mut image, 0x4008, 0x2000_2001);
-    put(&mut image, 0x8000, 0x2000_2401);
-    put(&mut image, 0x9008, 0x2000_40D7);
-    write(translate(h, base, &image, Kind::Load, 0x4000_1008, 8));
-    put(&mut image, 0x9008, 0x2000_40C7);
-    write(translate(h, base, &image, Kind::Load, 0x4000_1008, 8));
-    put(&mut image, 0x9008, 0x2000_4057);
-    write(translate(h, base, &image, Kind::Load, 0x4000_1008, 8));
-    write(translate(h, base, &image, Kind::Store, 0x4000_1008, 8));
-    write_deepest();
+    let mut i: usize = 0;
+    while i < 15 {
+        let row = entries[i];
+        put(&mut image, row);
+        access(&image, row);
+        i = i + 1;
+    }
 }

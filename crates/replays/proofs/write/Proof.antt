@@ -4,10 +4,10 @@ use Rattle.replays.proofs.write.Statement.{statement}
 use Rattle.replays.proofs.write.Tie as tie
 
 abbrev Inv-loop : tie.InvT-loop
-Inv-loop reads count i₀ i = i ≤ 15
+Inv-loop reads count i₀ t6 i = i ≤ 15
 
 abbrev μ-loop : tie.MeasureT-loop
-μ-loop reads count i₀ i = 15 - i
+μ-loop reads count i₀ t6 i = 15 - i
 
 write-answer-requires : tie.Need-write-answer-requires Inv-loop μ-loop
 write-answer-requires c κs = search needs
@@ -33,6 +33,12 @@ loop-less c = search needs
 loop-again : tie.Need-loop-again Inv-loop μ-loop
 loop-again c = search needs
 
+slice-aggregate-text : tie.Need-slice-aggregate-text Inv-loop μ-loop
+slice-aggregate-text c = search needs
+
+text-requires : tie.Need-text-requires Inv-loop μ-loop
+text-requires c κs = search needs
+
 returns : tie.Need-returns Inv-loop μ-loop
 returns c = search needs
 
@@ -50,4 +56,6 @@ write-spec =
     add-i
     loop-less
     loop-again
+    slice-aggregate-text
+    text-requires
     returns)

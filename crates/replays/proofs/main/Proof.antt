@@ -1,0 +1,61 @@
+use Prim.Native.Nat.{_≤_, _-_}
+use borrow.Author.Needs.{needs}
+use Rattle.replays.proofs.main.Statement.{statement}
+use Rattle.replays.proofs.main.Tie as tie
+
+abbrev Inv-loop : tie.InvT-loop
+Inv-loop entries image₀ i₀ image i = i ≤ 15
+
+abbrev μ-loop : tie.MeasureT-loop
+μ-loop entries image₀ i₀ image i = 15 - i
+
+write-length-requires : tie.Need-write-length-requires Inv-loop μ-loop
+write-length-requires c κs = search needs
+
+write-length-requires-2 : tie.Need-write-length-requires-2 Inv-loop μ-loop
+write-length-requires-2 c κs = search needs
+
+loop-holds : tie.Need-loop-holds Inv-loop μ-loop
+loop-holds c = search needs
+
+mul-row : tie.Need-mul-row Inv-loop μ-loop
+mul-row c = search needs
+
+array-read-row : tie.Need-array-read-row Inv-loop μ-loop
+array-read-row c = search needs
+
+put-requires : tie.Need-put-requires Inv-loop μ-loop
+put-requires c κs = search needs
+
+access-requires : tie.Need-access-requires Inv-loop μ-loop
+access-requires c κs = search needs
+
+add-i : tie.Need-add-i Inv-loop μ-loop
+add-i c = search needs
+
+loop-less : tie.Need-loop-less Inv-loop μ-loop
+loop-less c = search needs
+
+loop-again : tie.Need-loop-again Inv-loop μ-loop
+loop-again c = search needs
+
+returns : tie.Need-returns Inv-loop μ-loop
+returns c = search needs
+
+pub main-spec : {M : Type 1} → statement M
+main-spec =
+    tie.close
+    (tie.spec
+    Inv-loop
+    μ-loop
+    write-length-requires
+    write-length-requires-2
+    loop-holds
+    mul-row
+    array-read-row
+    put-requires
+    access-requires
+    add-i
+    loop-less
+    loop-again
+    returns)
