@@ -42,18 +42,6 @@ const ENTRIES: [u64; 15] = [
     DEEPEST << DO | 0x8008 << AT | 0x24C7,
 ];
 
-// Puts a row's entry into the image: eight bytes, little-endian.
-fn put(image: &mut [u8; 0x1_1000], row: u64) {
-    let at = (row >> AT) as usize % 0x1_0000;
-    let mut rest = row % 0x1_0000_0000;
-    let mut i: usize = 0;
-    while i < 8 {
-        image[at + i] = (rest % 256) as u8;
-        rest = rest / 256;
-        i = i + 1;
-    }
-}
-
 fn text(s: &[u8]) {
     io::write_all(STDOUT_FILENO, s);
 }
@@ -128,27 +116,37 @@ fn replay(image: &[u8], vsatp: u64, hgatp: u64, kind: Kind, address: u64) {
     write(translate(h, 0x8000_0000, image, kind, address, 8));
 }
 
-// The walk that takes all fifteen reads, in an image of ten pages.
-fn deepest(image: &[u8]) {
-    if 0xA000 <= image.len() {
-        replay(
-            &image[0..0xA000],
-            0x8000_0000_0000_0006,
-            0x8000_0000_0008_0000,
-            Kind::Load,
-            0x1008,
-        );
+// What a row asks for: an access by the guest with root PPN 80004, or the deepest walk, in an image of ten pages.
+fn act(image: &[u8], what: u64) {
+    match what {
+        LOAD => replay(image, 0, 0x8000_0000_0008_0004, Kind::Load, 0x4000_1008),
+        STORE => replay(image, 0, 0x8000_0000_0008_0004, Kind::Store, 0x4000_1008),
+        DEEPEST => {
+            if 0xA000 <= image.len() {
+                replay(
+                    &image[0..0xA000],
+                    0x8000_0000_0000_0006,
+                    0x8000_0000_0008_0000,
+                    Kind::Load,
+                    0x1008,
+                );
+            }
+        }
+        _ => {}
     }
 }
 
-// What a row asks for.
-fn access(image: &[u8; 0x1_1000], row: u64) {
-    match row >> DO {
-        LOAD => replay(image, 0, 0x8000_0000_0008_0004, Kind::Load, 0x4000_1008),
-        STORE => replay(image, 0, 0x8000_0000_0008_0004, Kind::Store, 0x4000_1008),
-        DEEPEST => deepest(image),
-        _ => {}
+// Puts a row's entry into the image, eight bytes, little-endian, and does what the row asks for.
+fn enter(image: &mut [u8; 0x1_1000], row: u64) {
+    let at = (row >> AT) as usize % 0x1_0000;
+    let mut rest = row % 0x1_0000_0000;
+    let mut i: usize = 0;
+    while i < 8 {
+        image[at + i] = (rest % 256) as u8;
+        rest = rest / 256;
+        i = i + 1;
     }
+    act(image, row >> DO);
 }
 
 fn main() {
@@ -158,9 +156,7 @@ fn main() {
     let mut image = [0u8; 0x1_1000];
     let mut i: usize = 0;
     while i < 15 {
-        let row = entries[i];
-        put(&mut image, row);
-        access(&image, row);
+        enter(&mut image, entries[i]);
         i = i + 1;
     }
 }

@@ -18,17 +18,14 @@ write-length-requires-2 c κs = search needs
 loop-holds : tie.Need-loop-holds Inv-loop μ-loop
 loop-holds c = search needs
 
-mul-row : tie.Need-mul-row Inv-loop μ-loop
-mul-row c = search needs
+mul-enter : tie.Need-mul-enter Inv-loop μ-loop
+mul-enter c = search needs
 
-array-read-row : tie.Need-array-read-row Inv-loop μ-loop
-array-read-row c = search needs
+array-read-enter : tie.Need-array-read-enter Inv-loop μ-loop
+array-read-enter c = search needs
 
-put-requires : tie.Need-put-requires Inv-loop μ-loop
-put-requires c κs = search needs
-
-access-requires : tie.Need-access-requires Inv-loop μ-loop
-access-requires c κs = search needs
+enter-requires : tie.Need-enter-requires Inv-loop μ-loop
+enter-requires c κs = search needs
 
 add-i : tie.Need-add-i Inv-loop μ-loop
 add-i c = search needs
@@ -51,10 +48,9 @@ main-spec =
     write-length-requires
     write-length-requires-2
     loop-holds
-    mul-row
-    array-read-row
-    put-requires
-    access-requires
+    mul-enter
+    array-read-enter
+    enter-requires
     add-i
     loop-less
     loop-again

@@ -1,7 +1,7 @@
 use Prim.Native.Nat.{_≤_, _-_}
 use borrow.Author.Needs.{needs}
-use Rattle.replays.proofs.put.Statement.{statement}
-use Rattle.replays.proofs.put.Tie as tie
+use Rattle.replays.proofs.enter.Statement.{statement}
+use Rattle.replays.proofs.enter.Tie as tie
 
 abbrev Inv-loop : tie.InvT-loop
 Inv-loop image₀ row at rest₀ i₀ image rest i = i ≤ 8
@@ -30,11 +30,14 @@ loop-less c = search needs
 loop-again : tie.Need-loop-again Inv-loop μ-loop
 loop-again c = search needs
 
+act-requires : tie.Need-act-requires Inv-loop μ-loop
+act-requires c κs = search needs
+
 returns : tie.Need-returns Inv-loop μ-loop
 returns c = search needs
 
-pub put-spec : {M : Type 1} → statement M
-put-spec =
+pub enter-spec : {M : Type 1} → statement M
+enter-spec =
     tie.close
     (tie.spec
     Inv-loop
@@ -46,4 +49,5 @@ put-spec =
     add-i
     loop-less
     loop-again
+    act-requires
     returns)
