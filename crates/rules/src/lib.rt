@@ -1,6 +1,6 @@
 // The rules of one page-table entry and of an address.
 ghost use mathlib.Core.Path.{_≡_};
-ghost use Prim.Native.Nat.{_+_, _-_, _*_, _^_, _<_, _≤_};
+ghost use Prim.Native.Nat.{_+_, _-_, _^_, _<_, _≤_};
 ghost use mathlib.Core.Bool.{_||_};
 ghost use Rattle.bits.specs.Field.{get, pick};
 ghost use Rattle.rules.specs.Kind.{by};

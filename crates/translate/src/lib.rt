@@ -1,7 +1,6 @@
 // The translation of an access on a hart: refusals, misalignment and the walk.
 ghost use mathlib.Core.Path.{_≡_};
 ghost use mathlib.Core.Bool.{true};
-ghost use Prim.Native.Nat.{_%_};
 ghost use Rattle.walk.specs.Place.{outcome};
 ghost use Rattle.translate.specs.Stop.{stopOf, walks, onlyIf, answerOf};
 ghost use Rattle.translate.specs.Translated.{known, unsupported, misaligned, translated};

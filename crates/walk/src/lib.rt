@@ -1,7 +1,7 @@
 // The walk of an access through both stages, one entry at a time, with its list of reads.
 ghost use mathlib.Core.Path.{_≡_};
 ghost use mathlib.Core.Bool.{true};
-ghost use Prim.Native.Nat.{_+_, _-_, _*_, _≤_, _<_};
+ghost use Prim.Native.Nat.{_≤_, _<_};
 ghost use lib.ListN.{length};
 ghost use Rattle.rules.specs.Entry.{judged};
 ghost use Rattle.access.specs.Faults.{firstNeed};
