@@ -5,12 +5,6 @@ use borrow.Author.Needs.{needs}
 use Rattle.effective.proofs.access.Statement.{statement}
 use Rattle.effective.proofs.access.Tie as tie
 
-effective-mode-requires : tie.Need-effective-mode-requires
-effective-mode-requires c κs = search needs
-
-in-mode-requires : tie.Need-in-mode-requires
-in-mode-requires c κs = search needs
-
 returns : tie.Need-returns
 unfolding accessOf
 returns c =
@@ -18,4 +12,4 @@ returns c =
     c .in-mode .ensures ∙ ap (λ (m : Mode). inMode (a .h) m (a .kind) (a .address) (a .width)) (c .before .effective-mode .ensures)
 
 pub access-spec : {M : Type 1} → statement M
-access-spec = tie.close (tie.spec effective-mode-requires in-mode-requires returns)
+access-spec = tie.close (tie.spec (λ c κs. search needs) (λ c κs. search needs) returns)

@@ -3,23 +3,13 @@ use borrow.Author.Needs.{needs}
 use Rattle.effective.proofs.second.Statement.{statement}
 use Rattle.effective.proofs.second.Tie as tie
 
-element-copy-out-tables : tie.Need-element-copy-out-tables
-element-copy-out-tables c = search needs
-
-tables-requires : tie.Need-tables-requires
-tables-requires c κs = search needs
-
 returns : tie.Need-returns
 unfolding secondRoot
 returns c = rw (c .before .before .if1 .taken) (c .tables .ensures)
-
-bare-requires : tie.Need-bare-requires
-bare-requires c κs = search needs
 
 returns-2 : tie.Need-returns-2
 unfolding secondRoot
 returns-2 c = rw (c .before .if1 .left) (c .bare .ensures)
 
 pub second-spec : {M : Type 1} → statement M
-second-spec =
-    tie.close (tie.spec element-copy-out-tables tables-requires returns bare-requires returns-2)
+second-spec = tie.close (tie.spec (λ c. search needs) (λ c κs. search needs) returns (λ c κs. search needs) returns-2)

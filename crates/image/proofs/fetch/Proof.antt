@@ -7,9 +7,6 @@ use Rattle.image.proofs.Tests.{within-facts}
 use Rattle.image.proofs.fetch.Statement.{statement}
 use Rattle.image.proofs.fetch.Tie as tie
 
-inside-requires : tie.Need-inside-requires
-inside-requires c κs = search needs
-
 sub-load : tie.Need-sub-load
 sub-load c = within-facts _ _ _ _ (sym (c .before .inside .ensures) ∙ c .if1 .taken) .0
 
@@ -25,4 +22,4 @@ unfolding entry
 returns-2 c = simp (sym (c .before .inside .ensures) ∙ c .if1 .left)
 
 pub fetch-spec : {M : Type 1} → statement M
-fetch-spec = tie.close (tie.spec inside-requires sub-load load-requires returns returns-2)
+fetch-spec = tie.close (tie.spec (λ c κs. search needs) sub-load load-requires returns returns-2)

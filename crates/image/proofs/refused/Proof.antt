@@ -12,9 +12,6 @@ returns : tie.Need-returns
 unfolding unfit
 returns c = simp (lt-ltb _ _ (c .if1 .taken))
 
-sub-result : tie.Need-sub-result
-sub-result c = search needs
-
 returns-2 : tie.Need-returns-2
 unfolding unfit
 returns-2 c =
@@ -26,4 +23,4 @@ returns-2 c =
     simp (le-ltb _ _ (c .if1 .left), over)
 
 pub refused-spec : {M : Type 1} → statement M
-refused-spec = tie.close (tie.spec returns sub-result returns-2)
+refused-spec = tie.close (tie.spec returns (λ c. search needs) returns-2)

@@ -22,27 +22,6 @@ returns c = simp (ne-eqb _ _ (c .if1 .taken))
 loop-holds : tie.Need-loop-holds Inv-loop μ-loop
 loop-holds c = (omega arith, refl, sets-all (drop 3 (c .before .args .ws .now)) _ (sym (simp length-drop (omega arith))))
 
-add-regs : tie.Need-add-regs Inv-loop μ-loop
-add-regs c = omega arith
-
-mul-regs : tie.Need-mul-regs Inv-loop μ-loop
-mul-regs c = omega arith
-
-shared-slice-read-regs : tie.Need-shared-slice-read-regs Inv-loop μ-loop
-shared-slice-read-regs c = omega arith
-
-mul-regs-2 : tie.Need-mul-regs-2 Inv-loop μ-loop
-mul-regs-2 c = omega arith
-
-array-write-regs : tie.Need-array-write-regs Inv-loop μ-loop
-array-write-regs c = omega arith
-
-add-i : tie.Need-add-i Inv-loop μ-loop
-add-i c = omega arith
-
-loop-less : tie.Need-loop-less Inv-loop μ-loop
-loop-less c = omega arith
-
 loop-again : tie.Need-loop-again Inv-loop μ-loop
 loop-again c =
     let l = c .before .before .loop in (
@@ -50,15 +29,6 @@ loop-again c =
       length-set (l .regs) (l .i) _ ∙ l .inv .1,
       copied (l .regs) (c .before .before .before .before .args .ws .now) _ (l .i + 3) (l .i) (l .i + 1 + 3) (l .i + 1) (omega arith) (omega arith) (omega arith) (l .inv .2),
     )
-
-shared-slice-read-t16 : tie.Need-shared-slice-read-t16 Inv-loop μ-loop
-shared-slice-read-t16 c = omega arith
-
-shared-slice-read-t18 : tie.Need-shared-slice-read-t18 Inv-loop μ-loop
-shared-slice-read-t18 c = omega arith
-
-shared-slice-read-t20 : tie.Need-shared-slice-read-t20 Inv-loop μ-loop
-shared-slice-read-t20 c = omega arith
 
 returns-2 : tie.Need-returns-2 Inv-loop μ-loop
 unfolding hartOf
@@ -70,19 +40,5 @@ pub hart-of-spec : {M : Type 1} → statement M
 hart-of-spec =
     tie.close
     (tie.spec
-    Inv-loop
-    μ-loop
-    returns
-    loop-holds
-    add-regs
-    mul-regs
-    shared-slice-read-regs
-    mul-regs-2
-    array-write-regs
-    add-i
-    loop-less
-    loop-again
-    shared-slice-read-t16
-    shared-slice-read-t18
-    shared-slice-read-t20
-    returns-2)
+    Inv-loop μ-loop returns loop-holds (λ c. omega arith) (λ c. omega arith) (λ c. omega arith) (λ c. omega arith) (λ c. omega arith)
+    (λ c. omega arith) (λ c. omega arith) loop-again (λ c. omega arith) (λ c. omega arith) (λ c. omega arith) returns-2)

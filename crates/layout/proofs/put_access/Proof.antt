@@ -19,17 +19,11 @@ returns-2 : tie.Need-returns-2
 unfolding put
 returns-2 c = rw (out-wrong _ _ 35 (c .before .if1 .left) (c .if2 .taken))
 
-slice-write-out : tie.Need-slice-write-out
-slice-write-out c = omega arith
-
 slice-relend-prefix-put-step : tie.Need-slice-relend-prefix-put-step
 slice-relend-prefix-put-step c = simp length-set (omega arith)
 
 slice-aggregate-put-step : tie.Need-slice-aggregate-put-step
 slice-aggregate-put-step c = lent-length (now (c .before .before .before .before .before .args .out)) (_ ∷ []) 34 (omega arith)
-
-put-step-requires : tie.Need-put-step-requires
-put-step-requires c κs = search needs
 
 same-length : tie.Need-same-length
 same-length c =
@@ -46,11 +40,4 @@ pub put-access-spec : {M : Type 1} → statement M
 put-access-spec =
     tie.close
     (tie.spec
-    returns
-    returns-2
-    slice-write-out
-    slice-relend-prefix-put-step
-    slice-aggregate-put-step
-    put-step-requires
-    same-length
-    returns-3)
+    returns returns-2 (λ c. omega arith) slice-relend-prefix-put-step slice-aggregate-put-step (λ c κs. search needs) same-length returns-3)

@@ -27,9 +27,6 @@ returns-2 : tie.Need-returns-2 Inv-loop μ-loop
 unfolding put
 returns-2 c = rw (out-wrong _ _ 32 (c .before .if1 .left) (c .if2 .taken))
 
-slice-write-out : tie.Need-slice-write-out Inv-loop μ-loop
-slice-write-out c = omega arith
-
 slice-write-out-2 : tie.Need-slice-write-out-2 Inv-loop μ-loop
 slice-write-out-2 c = simp length-set (omega arith)
 
@@ -38,27 +35,6 @@ slice-write-out-3 c = simp length-set (omega arith)
 
 loop-holds : tie.Need-loop-holds Inv-loop μ-loop
 loop-holds c = (omega arith, search needs, simp length-set (omega arith), refl)
-
-mul-out : tie.Need-mul-out Inv-loop μ-loop
-mul-out c = omega arith
-
-array-read-out : tie.Need-array-read-out Inv-loop μ-loop
-array-read-out c = omega arith
-
-add-out : tie.Need-add-out Inv-loop μ-loop
-add-out c = omega arith
-
-mul-out-2 : tie.Need-mul-out-2 Inv-loop μ-loop
-mul-out-2 c = omega arith
-
-slice-write-out-4 : tie.Need-slice-write-out-4 Inv-loop μ-loop
-slice-write-out-4 c = omega arith
-
-add-i : tie.Need-add-i Inv-loop μ-loop
-add-i c = omega arith
-
-loop-less : tie.Need-loop-less Inv-loop μ-loop
-loop-less c = omega arith
 
 loop-again : tie.Need-loop-again Inv-loop μ-loop
 loop-again c =
@@ -69,9 +45,6 @@ loop-again c =
       length-set (l .out) (l .i + 3) _ ∙ l .inv .2,
       copied (l .out) (h .regs) _ (l .i) (l .i + 3) (l .i + 1) (l .i + 1 + 3) (omega arith) (omega arith) (omega arith) (l .inv .3),
     )
-
-same-length : tie.Need-same-length Inv-loop μ-loop
-same-length c = omega arith
 
 returns-3 : tie.Need-returns-3 Inv-loop μ-loop
 unfolding put
@@ -85,21 +58,5 @@ pub put-hart-spec : {M : Type 1} → statement M
 put-hart-spec =
     tie.close
     (tie.spec
-    Inv-loop
-    μ-loop
-    returns
-    returns-2
-    slice-write-out
-    slice-write-out-2
-    slice-write-out-3
-    loop-holds
-    mul-out
-    array-read-out
-    add-out
-    mul-out-2
-    slice-write-out-4
-    add-i
-    loop-less
-    loop-again
-    same-length
-    returns-3)
+    Inv-loop μ-loop returns returns-2 (λ c. omega arith) slice-write-out-2 slice-write-out-3 loop-holds (λ c. omega arith) (λ c. omega arith)
+    (λ c. omega arith) (λ c. omega arith) (λ c. omega arith) (λ c. omega arith) (λ c. omega arith) loop-again (λ c. omega arith) returns-3)

@@ -19,18 +19,6 @@ returns-2 : tie.Need-returns-2
 unfolding put
 returns-2 c = rw (out-wrong _ _ 34 (c .before .if1 .left) (c .if2 .taken))
 
-outcome-words-requires : tie.Need-outcome-words-requires
-outcome-words-requires c κs = search needs
-
-array-read-out : tie.Need-array-read-out
-array-read-out c = search needs
-
-slice-write-out : tie.Need-slice-write-out
-slice-write-out c = omega arith
-
-array-read-out-2 : tie.Need-array-read-out-2
-array-read-out-2 c = search needs
-
 slice-write-out-2 : tie.Need-slice-write-out-2
 slice-write-out-2 c = simp length-set (omega arith)
 
@@ -39,9 +27,6 @@ slice-relend-prefix-put-hart c = simp length-set (omega arith)
 
 slice-aggregate-put-hart : tie.Need-slice-aggregate-put-hart
 slice-aggregate-put-hart c = lent-length (now (c .before .before .before .before .before .before .args .out)) (_ ∷ _ ∷ []) 32 (omega arith)
-
-put-hart-requires : tie.Need-put-hart-requires
-put-hart-requires c κs = search needs
 
 same-length : tie.Need-same-length
 same-length c =
@@ -61,15 +46,5 @@ pub put-step-spec : {M : Type 1} → statement M
 put-step-spec =
     tie.close
     (tie.spec
-    returns
-    returns-2
-    outcome-words-requires
-    array-read-out
-    slice-write-out
-    array-read-out-2
-    slice-write-out-2
-    slice-relend-prefix-put-hart
-    slice-aggregate-put-hart
-    put-hart-requires
-    same-length
-    returns-3)
+    returns returns-2 (λ c κs. search needs) (λ c. search needs) (λ c. omega arith) (λ c. search needs) slice-write-out-2 slice-relend-prefix-put-hart
+    slice-aggregate-put-hart (λ c κs. search needs) same-length returns-3)

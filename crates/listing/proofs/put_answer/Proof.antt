@@ -16,29 +16,8 @@ Inv-loop count out₀ ws i₀ out i = (i ≤ 6) × (length ws ≡ 6) × (length 
 abbrev μ-loop : tie.MeasureT-loop
 μ-loop count out₀ ws i₀ out i = 6 - i
 
-answer-words-requires : tie.Need-answer-words-requires Inv-loop μ-loop
-answer-words-requires c κs = tt
-
 loop-holds : tie.Need-loop-holds Inv-loop μ-loop
 loop-holds c = (omega arith, search needs, search needs, refl)
-
-mul-out : tie.Need-mul-out Inv-loop μ-loop
-mul-out c = omega arith
-
-array-read-out : tie.Need-array-read-out Inv-loop μ-loop
-array-read-out c = omega arith
-
-mul-out-2 : tie.Need-mul-out-2 Inv-loop μ-loop
-mul-out-2 c = omega arith
-
-slice-write-out : tie.Need-slice-write-out Inv-loop μ-loop
-slice-write-out c = omega arith
-
-add-i : tie.Need-add-i Inv-loop μ-loop
-add-i c = omega arith
-
-loop-less : tie.Need-loop-less Inv-loop μ-loop
-loop-less c = omega arith
 
 loop-again : tie.Need-loop-again Inv-loop μ-loop
 loop-again c =
@@ -48,9 +27,6 @@ loop-again c =
       length-set (l .out) (l .i) _ ∙ l .inv .2,
       copied (l .out) _ _ (l .i) (l .i) (l .i + 1) (l .i + 1) (omega arith) (omega arith) (omega arith) (l .inv .3),
     )
-
-slice-write-out-2 : tie.Need-slice-write-out-2 Inv-loop μ-loop
-slice-write-out-2 c = omega arith
 
 same-length : tie.Need-same-length Inv-loop μ-loop
 same-length c = simp length-set (omega arith)
@@ -67,17 +43,5 @@ pub put-answer-spec : {M : Type 1} → statement M
 put-answer-spec =
     tie.close
     (tie.spec
-    Inv-loop
-    μ-loop
-    answer-words-requires
-    loop-holds
-    mul-out
-    array-read-out
-    mul-out-2
-    slice-write-out
-    add-i
-    loop-less
-    loop-again
-    slice-write-out-2
-    same-length
-    returns)
+    Inv-loop μ-loop (λ c κs. tt) loop-holds (λ c. omega arith) (λ c. omega arith) (λ c. omega arith) (λ c. omega arith) (λ c. omega arith)
+    (λ c. omega arith) loop-again (λ c. omega arith) same-length returns)

@@ -22,15 +22,6 @@ returns-3 : tie.Need-returns-3
 unfolding putKind
 returns-3 c = rw (both-fit _ _ 67 (c .before .before .if1 .left) (c .before .if2 .left), lt-ltb _ _ (c .if3 .taken))
 
-put-answer-requires : tie.Need-put-answer-requires
-put-answer-requires c κs = search needs
-
-put-reads-requires : tie.Need-put-reads-requires
-put-reads-requires c κs = search needs
-
-same-length : tie.Need-same-length
-same-length c = search needs
-
 returns-4 : tie.Need-returns-4
 unfolding putKind translationWords
 returns-4 c =
@@ -39,13 +30,4 @@ returns-4 c =
     (ap (λ (ws : List ℕ). (0, ws)) (translation-written (a .t .answer) _ _ _))
 
 pub put-translation-spec : {M : Type 1} → statement M
-put-translation-spec =
-    tie.close
-    (tie.spec
-    returns
-    returns-2
-    returns-3
-    put-answer-requires
-    put-reads-requires
-    same-length
-    returns-4)
+put-translation-spec = tie.close (tie.spec returns returns-2 returns-3 (λ c κs. search needs) (λ c κs. search needs) (λ c. search needs) returns-4)

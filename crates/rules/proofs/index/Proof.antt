@@ -5,17 +5,8 @@ use borrow.Author.Needs.{needs}
 use Rattle.rules.proofs.index.Statement.{statement}
 use Rattle.rules.proofs.index.Tie as tie
 
-mul-t4 : tie.Need-mul-t4
-mul-t4 c = search needs
-
-add-t5 : tie.Need-add-t5
-add-t5 c = search needs
-
-get-requires : tie.Need-get-requires
-get-requires c κs = search needs
-
 returns : tie.Need-returns
 returns c = (c .get .ensures, omega (arith, c .get .ensures, get-lt (indexBits 9 (c .before .args .level)) (c .before .args .address)))
 
 pub index-spec : {M : Type 1} → statement M
-index-spec = tie.close (tie.spec mul-t4 add-t5 get-requires returns)
+index-spec = tie.close (tie.spec (λ c. search needs) (λ c. search needs) (λ c κs. search needs) returns)

@@ -7,9 +7,6 @@ use borrow.Author.Needs.{needs}
 use Rattle.rules.proofs.leads_to.Statement.{statement}
 use Rattle.rules.proofs.leads_to.Tie as tie
 
-get-requires : tie.Need-get-requires
-get-requires c κs = search needs
-
 mul-result : tie.Need-mul-result
 mul-result c = omega (arith, c .get .ensures, get-lt PPN (c .before .args .e))
 
@@ -17,4 +14,4 @@ returns : tie.Need-returns
 returns c = (ap (λ (n : ℕ). n * 4096) (c .get .ensures), omega (arith, c .get .ensures, get-lt PPN (c .before .args .e)))
 
 pub leads-to-spec : {M : Type 1} → statement M
-leads-to-spec = tie.close (tie.spec get-requires mul-result returns)
+leads-to-spec = tie.close (tie.spec (λ c κs. search needs) mul-result returns)

@@ -5,14 +5,8 @@ use Rattle.translate.proofs.only_if.Tie as tie
 returns : tie.Need-returns
 returns c = rw (c .if1 .taken)
 
-bare-requires : tie.Need-bare-requires
-bare-requires c κs = search needs
-
-bare-requires-2 : tie.Need-bare-requires-2
-bare-requires-2 c κs = search needs
-
 returns-2 : tie.Need-returns-2
 returns-2 c = rw (c .before .before .if1 .left, c .before .bare .ensures, c .bare2 .ensures)
 
 pub only-if-spec : {M : Type 1} → statement M
-only-if-spec = tie.close (tie.spec returns bare-requires bare-requires-2 returns-2)
+only-if-spec = tie.close (tie.spec returns (λ c κs. search needs) (λ c κs. search needs) returns-2)

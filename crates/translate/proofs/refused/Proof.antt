@@ -3,12 +3,9 @@ use borrow.Author.Needs.{needs}
 use Rattle.translate.proofs.refused.Statement.{statement}
 use Rattle.translate.proofs.refused.Tie as tie
 
-test-requires : tie.Need-test-requires
-test-requires c κs = search needs
-
 returns : tie.Need-returns
 unfolding unsupported
 returns c = rw (c .test .ensures)
 
 pub refused-spec : {M : Type 1} → statement M
-refused-spec = tie.close (tie.spec test-requires returns)
+refused-spec = tie.close (tie.spec (λ c κs. search needs) returns)

@@ -6,22 +6,13 @@ use borrow.Author.Needs.{needs}
 use Rattle.translate.proofs.stops.Statement.{statement}
 use Rattle.translate.proofs.stops.Tie as tie
 
-passes-requires : tie.Need-passes-requires
-passes-requires c κs = search needs
-
 returns : tie.Need-returns
 unfolding stopOf
 returns c = rw (ap not (sym (c .before .passes .ensures)) ∙ c .if1 .taken)
 
-refused-requires : tie.Need-refused-requires
-refused-requires c κs = search needs
-
 returns-2 : tie.Need-returns-2
 unfolding stopOf
 returns-2 c = rw (ap not (sym (c .before .before .before .passes .ensures)) ∙ c .before .before .if1 .left, sym (c .before .refused .ensures) ∙ c .if2 .taken)
-
-refused-requires-2 : tie.Need-refused-requires-2
-refused-requires-2 c κs = search needs
 
 returns-3 : tie.Need-returns-3
 unfolding stopOf
@@ -42,12 +33,4 @@ pub stops-spec : {M : Type 1} → statement M
 stops-spec =
     tie.close
     (tie.spec
-    passes-requires
-    returns
-    refused-requires
-    returns-2
-    refused-requires-2
-    returns-3
-    is-misaligned-requires
-    returns-4
-    returns-5)
+    (λ c κs. search needs) returns (λ c κs. search needs) returns-2 (λ c κs. search needs) returns-3 is-misaligned-requires returns-4 returns-5)

@@ -5,25 +5,10 @@ use borrow.Author.Needs.{needs}
 use Rattle.translate.proofs.translate.Statement.{statement}
 use Rattle.translate.proofs.translate.Tie as tie
 
-stops-requires : tie.Need-stops-requires
-stops-requires c κs = search needs
-
-access-requires : tie.Need-access-requires
-access-requires c κs = search needs
-
-walks-requires : tie.Need-walks-requires
-walks-requires c κs = search needs
-
-only-if-requires : tie.Need-only-if-requires
-only-if-requires c κs = search needs
-
 walk-requires : tie.Need-walk-requires
 walk-requires c κs =
     let a = c .before .before .before .before .before .args in
     rw (c .only-if .ensures, c .before .walks .ensures, c .before .before .access .ensures) (tables-if (walks (c .before .before .before .stops .result)) _ (tables-of (a .h) (a .kind) (a .address) (a .width)))
-
-answered-requires : tie.Need-answered-requires
-answered-requires c κs = search needs
 
 returns : tie.Need-returns
 returns c =
@@ -38,10 +23,4 @@ pub translate-spec : {M : Type 1} → statement M
 translate-spec =
     tie.close
     (tie.spec
-    stops-requires
-    access-requires
-    walks-requires
-    only-if-requires
-    walk-requires
-    answered-requires
-    returns)
+    (λ c κs. search needs) (λ c κs. search needs) (λ c κs. search needs) (λ c κs. search needs) walk-requires (λ c κs. search needs) returns)

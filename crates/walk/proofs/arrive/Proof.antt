@@ -7,25 +7,13 @@ use borrow.Author.Needs.{needs}
 use Rattle.walk.proofs.arrive.Statement.{statement}
 use Rattle.walk.proofs.arrive.Tie as tie
 
-enum-known-answer : tie.Need-enum-known-answer
-enum-known-answer c = search needs
-
-enum-told : tie.Need-enum-told
-enum-told c = search needs
-
 returns : tie.Need-returns
 unfolding rest
 returns c = rw (c .enum-told .given .1) (record { same = refl; sound = tt })
 
-conclude-requires : tie.Need-conclude-requires
-conclude-requires c κs = search needs
-
 returns-2 : tie.Need-returns-2
 unfolding rest arrived
 returns-2 c = rw (c .before .before .before .answer .given .1, c .before .if1 .taken) (record { same = ap done (c .conclude .ensures); sound = tt })
-
-sub-t10 : tie.Need-sub-t10
-sub-t10 c = search needs
 
 returns-3 : tie.Need-returns-3
 returns-3 c =
@@ -34,6 +22,4 @@ returns-3 c =
     (record { same = arrived-entry (a .base) (a .len) (a .a) (a .left) (c .before .before .answer .given .0 .0) (a .guest) (omega (arith, c .if1 .left)); sound = record { level = omega (arith, c .if1 .left, c .before .before .before .before .pre); left = c .before .before .before .before .pre } })
 
 pub arrive-spec : {M : Type 1} → statement M
-arrive-spec =
-    tie.close
-    (tie.spec enum-known-answer enum-told returns conclude-requires returns-2 sub-t10 returns-3)
+arrive-spec = tie.close (tie.spec (λ c. search needs) (λ c. search needs) returns (λ c κs. search needs) returns-2 (λ c. search needs) returns-3)

@@ -4,19 +4,13 @@ use borrow.Author.Needs.{needs}
 use Rattle.walk.proofs.conclude.Statement.{statement}
 use Rattle.walk.proofs.conclude.Tie as tie
 
-inside-requires : tie.Need-inside-requires
-inside-requires c κs = search needs
-
 returns : tie.Need-returns
 unfolding last
 returns c = simp (sym (c .before .inside .ensures) ∙ c .if1 .taken)
-
-access-fault-requires : tie.Need-access-fault-requires
-access-fault-requires c κs = search needs
 
 returns-2 : tie.Need-returns-2
 unfolding last
 returns-2 c = simp (sym (c .before .before .inside .ensures) ∙ c .before .if1 .left) (ap faults (c .access-fault .ensures))
 
 pub conclude-spec : {M : Type 1} → statement M
-conclude-spec = tie.close (tie.spec inside-requires returns access-fault-requires returns-2)
+conclude-spec = tie.close (tie.spec (λ c κs. search needs) returns (λ c κs. search needs) returns-2)

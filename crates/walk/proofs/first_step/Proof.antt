@@ -10,35 +10,11 @@ use borrow.Author.Needs.{needs}
 use Rattle.walk.proofs.first_step.Statement.{statement}
 use Rattle.walk.proofs.first_step.Tie as tie
 
-enum-told : tie.Need-enum-told
-enum-told c = search needs
-
-page-fault-requires : tie.Need-page-fault-requires
-page-fault-requires c κs = search needs
-
-enum-known-v : tie.Need-enum-known-v
-enum-known-v c = search needs
-
-enter-requires : tie.Need-enter-requires
-enter-requires c κs = search needs
-
-enum-known-v-2 : tie.Need-enum-known-v-2
-enum-known-v-2 c = search needs
-
 sub-index : tie.Need-sub-index
 sub-index c = omega (arith, pointer-bounds _ _ _ _ _ (sym (c .before .before .before .pre .2) ∙ c .before .v2 .given .1) .0)
 
-index-requires : tie.Need-index-requires
-index-requires c κs = search needs
-
-mul-t16 : tie.Need-mul-t16
-mul-t16 c = search needs
-
 add-t17 : tie.Need-add-t17
 add-t17 c = omega (arith, pointer-bounds _ _ _ _ _ (sym (c .before .before .before .before .pre .2) ∙ c .before .before .v2 .given .1) .1, c .index .ensures .1)
-
-enter-requires-2 : tie.Need-enter-requires-2
-enter-requires-2 c κs = search needs
 
 returns : tie.Need-returns
 unfolding follow bind rest
@@ -62,16 +38,5 @@ pub first-step-spec : {M : Type 1} → statement M
 first-step-spec =
     tie.close
     (tie.spec
-    enum-told
-    page-fault-requires
-    enum-known-v
-    enter-requires
-    enum-known-v-2
-    sub-index
-    index-requires
-    mul-t16
-    add-t17
-    enter-requires-2
-    returns
-    returns-2
-    returns-3)
+    (λ c. search needs) (λ c κs. search needs) (λ c. search needs) (λ c κs. search needs) (λ c. search needs) sub-index (λ c κs. search needs)
+    (λ c. search needs) add-t17 (λ c κs. search needs) returns returns-2 returns-3)

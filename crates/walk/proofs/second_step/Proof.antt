@@ -8,35 +8,11 @@ use borrow.Author.Needs.{needs}
 use Rattle.walk.proofs.second_step.Statement.{statement}
 use Rattle.walk.proofs.second_step.Tie as tie
 
-enum-told : tie.Need-enum-told
-enum-told c = search needs
-
-fault-requires : tie.Need-fault-requires
-fault-requires c κs = search needs
-
-arrive-requires : tie.Need-arrive-requires
-arrive-requires c κs = search needs
-
-enum-known-v : tie.Need-enum-known-v
-enum-known-v c = search needs
-
-arrive-requires-2 : tie.Need-arrive-requires-2
-arrive-requires-2 c κs = search needs
-
-enum-known-v-2 : tie.Need-enum-known-v-2
-enum-known-v-2 c = search needs
-
 sub-t18 : tie.Need-sub-t18
 sub-t18 c = omega (arith, pointer-bounds _ _ _ _ _ (sym (c .before .before .before .before .pre .3) ∙ c .before .v2 .given .1) .0)
 
 sub-index : tie.Need-sub-index
 sub-index c = omega (arith, pointer-bounds _ _ _ _ _ (sym (c .before .before .before .before .pre .3) ∙ c .before .v2 .given .1) .0)
-
-index-requires : tie.Need-index-requires
-index-requires c κs = search needs
-
-mul-t21 : tie.Need-mul-t21
-mul-t21 c = search needs
 
 add-t22 : tie.Need-add-t22
 add-t22 c = omega (arith, pointer-bounds _ _ _ _ _ (sym (c .before .before .before .before .before .pre .3) ∙ c .before .before .v2 .given .1) .1, c .index .ensures .1)
@@ -65,17 +41,5 @@ pub second-step-spec : {M : Type 1} → statement M
 second-step-spec =
     tie.close
     (tie.spec
-    enum-told
-    fault-requires
-    arrive-requires
-    enum-known-v
-    arrive-requires-2
-    enum-known-v-2
-    sub-t18
-    sub-index
-    index-requires
-    mul-t21
-    add-t22
-    returns
-    returns-2
-    returns-3)
+    (λ c. search needs) (λ c κs. search needs) (λ c κs. search needs) (λ c. search needs) (λ c κs. search needs) (λ c. search needs) sub-t18 sub-index
+    (λ c κs. search needs) (λ c. search needs) add-t22 returns returns-2 returns-3)

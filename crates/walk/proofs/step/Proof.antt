@@ -20,12 +20,6 @@ verdict c =
     let a = c .before .before .before .args in
     c .judge .ensures ∙ ap₂ (λ (n : Need) (x : ℕ). judged n (a .p .level) x (a .e)) (c .before .before .need .ensures) (c .before .translated .ensures)
 
-need-requires : tie.Need-need-requires
-need-requires c κs = search needs
-
-translated-requires : tie.Need-translated-requires
-translated-requires c κs = search needs
-
 judge-requires : tie.Need-judge-requires
 judge-requires c κs = below-five (c .before .before .args .p .second) _ _ _ (c .before .before .pre .1 .level) (c .before .before .pre .0 .second) (c .before .before .pre .0 .first)
 
@@ -45,10 +39,4 @@ pub step-spec : {M : Type 1} → statement M
 step-spec =
     tie.close
     (tie.spec
-    need-requires
-    translated-requires
-    judge-requires
-    second-step-requires
-    returns
-    first-step-requires
-    returns-2)
+    (λ c κs. search needs) (λ c κs. search needs) judge-requires second-step-requires returns first-step-requires returns-2)

@@ -19,18 +19,12 @@ Inv-loop base bytes a len reads₀ count₀ next₀ reads count next =
 abbrev μ-loop : tie.MeasureT-loop
 μ-loop base bytes a len reads₀ count₀ next₀ reads count next = places - count
 
-start-requires : tie.Need-start-requires Inv-loop μ-loop
-start-requires c κs = search needs
-
 loop-holds : tie.Need-loop-holds Inv-loop μ-loop
 loop-holds c =
     let a = c .before .before .args in
     let L = look (a .base) (now (a .bytes)) in
     let N = length (now (a .bytes)) in
     stands-first L (a .base) N (a .a) (c .before .before .pre .1) (c .before .before .pre .2) (c .start .result) (c .start .ensures)
-
-enum-known-next : tie.Need-enum-known-next Inv-loop μ-loop
-enum-known-next c = search needs
 
 returns : tie.Need-returns Inv-loop μ-loop
 returns c =
@@ -39,21 +33,6 @@ returns c =
     let N = length (now (a .bytes)) in
     let l = c .before .before .before .loop in
     ends L (a .base) N (a .a) (l .reads) (l .count) (c .before .next .given .0 .0) (rw (c .before .next .given .1) at (l .inv))
-
-enum-known-next-2 : tie.Need-enum-known-next-2 Inv-loop μ-loop
-enum-known-next-2 c = search needs
-
-fetch-requires : tie.Need-fetch-requires Inv-loop μ-loop
-fetch-requires c κs = search needs
-
-enum-known-e : tie.Need-enum-known-e Inv-loop μ-loop
-enum-known-e c = search needs
-
-enum-told : tie.Need-enum-told Inv-loop μ-loop
-enum-told c = search needs
-
-access-fault-requires : tie.Need-access-fault-requires Inv-loop μ-loop
-access-fault-requires c κs = search needs
 
 returns-2 : tie.Need-returns-2 Inv-loop μ-loop
 returns-2 c =
@@ -65,9 +44,6 @@ returns-2 c =
     rw (c .access-fault .ensures)
     (ends L (a .base) N (a .a) (l .reads) (l .count) (Failed (accessFault (a .a)))
     (stands-outside L (a .base) N (a .a) (l .reads) (l .count) p (rw (c .before .before .before .before .before .before .next2 .given .1) at (l .inv)) (sym (c .before .before .before .fetch .ensures) ∙ c .before .enum-told .given .1)))
-
-select-requires : tie.Need-select-requires Inv-loop μ-loop
-select-requires c κs = search needs
 
 mul-reads : tie.Need-mul-reads Inv-loop μ-loop
 mul-reads c =
@@ -128,22 +104,6 @@ pub walk-spec : {M : Type 1} → statement M
 walk-spec =
     tie.close
     (tie.spec
-    Inv-loop
-    μ-loop
-    start-requires
-    loop-holds
-    enum-known-next
-    returns
-    enum-known-next-2
-    fetch-requires
-    enum-known-e
-    enum-told
-    access-fault-requires
-    returns-2
-    select-requires
-    mul-reads
-    array-set-from-reads
-    add-count
-    step-requires
-    loop-less
+    Inv-loop μ-loop (λ c κs. search needs) loop-holds (λ c. search needs) returns (λ c. search needs) (λ c κs. search needs) (λ c. search needs)
+    (λ c. search needs) (λ c κs. search needs) returns-2 (λ c κs. search needs) mul-reads array-set-from-reads add-count step-requires loop-less
     loop-again)

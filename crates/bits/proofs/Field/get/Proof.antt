@@ -4,12 +4,6 @@ use Rattle.bits.proofs.Shifts.{one-up, one-up-pos}
 use Rattle.bits.proofs.Field.get.Statement.{statement}
 use Rattle.bits.proofs.Field.get.Tie as tie
 
-shr-result : tie.Need-shr-result
-shr-result c = search needs
-
-shl-result : tie.Need-shl-result
-shl-result c = search needs
-
 rem-result : tie.Need-rem-result
 rem-result c = one-up-pos (c .before .before .args .self .width) (c .before .before .pre .width)
 
@@ -18,4 +12,4 @@ unfolding get
 returns c = rw (one-up (c .before .before .args .self .width) (c .before .before .pre .width))
 
 pub get-spec : {M : Type 1} → statement M
-get-spec = tie.close (tie.spec shr-result shl-result rem-result returns)
+get-spec = tie.close (tie.spec (λ c. search needs) (λ c. search needs) rem-result returns)

@@ -4,21 +4,12 @@ use Rattle.bits.proofs.Shifts.{one-up-pos, ones-code, place-code}
 use Rattle.bits.proofs.Field.put.Statement.{statement}
 use Rattle.bits.proofs.Field.put.Tie as tie
 
-shl-m : tie.Need-shl-m
-shl-m c = search needs
-
 sub-m : tie.Need-sub-m
 sub-m c = one-up-pos (c .before .args .self .width) (c .before .pre .width)
-
-shl-m-2 : tie.Need-shl-m-2
-shl-m-2 c = search needs
-
-shl-result : tie.Need-shl-result
-shl-result c = search needs
 
 returns : tie.Need-returns
 unfolding put
 returns c = rw (ones-code (c .before .before .before .args .self) (c .before .before .before .pre), place-code (c .before .before .before .args .self) (c .before .before .before .pre))
 
 pub put-spec : {M : Type 1} → statement M
-put-spec = tie.close (tie.spec shl-m sub-m shl-m-2 shl-result returns)
+put-spec = tie.close (tie.spec (λ c. search needs) sub-m (λ c. search needs) (λ c. search needs) returns)

@@ -2,4 +2,8 @@ use Rattle.exports.proofs.events.balcumentri_ebreak.Statement.{statemen
 use Rattle.exports.proofs.events.balcumentri_ebreak.Tie as tie
 
 pub balcumentri-ebreak-spec : {M : Type 1} → statement M
-balcumentri-ebreak-spec = tie.close (tie.spec (λ c κs. tt) (λ c κs. tt) (λ c κs. tt) (λ c. c .before .before .put-step .kept .1 .1 .0) (λ c. rw (c .before .before .put-step .ensures, c .before .before .before .before .ebreak .ensures, c .before .before .before .before .before .hart-of .ensures)))
+balcumentri-ebreak-spec =
+    tie.close
+    (tie.spec
+    (λ c κs. tt) (λ c κs. tt) (λ c κs. tt) (λ c. c .before .before .put-step .kept .1 .1 .0)
+    (λ c. rw (c .before .before .put-step .ensures, c .before .before .before .before .ebreak .ensures, c .before .before .before .before .before .hart-of .ensures)))

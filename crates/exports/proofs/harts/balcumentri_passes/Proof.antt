@@ -18,9 +18,6 @@ returns-2 : tie.Need-returns-2
 unfolding put
 returns-2 c = rw (out-wrong _ _ 1 (c .before .if1 .left) (c .if2 .taken))
 
-slice-write-out : tie.Need-slice-write-out
-slice-write-out c = omega arith
-
 same-length : tie.Need-same-length
 same-length c = simp length-set
 
@@ -31,6 +28,4 @@ returns-3 c =
     (ap (λ (ws : List ℕ). (0, ws)) (sets-all (_ ∷ []) (now (c .before .before .before .before .before .before .before .args .out)) (c .before .before .before .if2 .left)))
 
 pub balcumentri-passes-spec : {M : Type 1} → statement M
-balcumentri-passes-spec =
-    tie.close
-    (tie.spec returns returns-2 (λ c κs. tt) (λ c κs. tt) (λ c κs. tt) slice-write-out same-length returns-3)
+balcumentri-passes-spec = tie.close (tie.spec returns returns-2 (λ c κs. tt) (λ c κs. tt) (λ c κs. tt) (λ c. omega arith) same-length returns-3)

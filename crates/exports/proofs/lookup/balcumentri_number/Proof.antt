@@ -9,18 +9,9 @@ returns : tie.Need-returns
 unfolding number
 returns c = simp (le-ltb _ _ (c .if1 .taken))
 
-rows-requires : tie.Need-rows-requires
-rows-requires c κs = search needs
-
-mul-row : tie.Need-mul-row
-mul-row c = search needs
-
-array-copy-out-row : tie.Need-array-copy-out-row
-array-copy-out-row c = search needs
-
 returns-2 : tie.Need-returns-2
 unfolding number
 returns-2 c = simp (c .before .rows .ensures, lt-ltb _ _ (c .before .before .if1 .left)) (number-at (c .before .before .before .args .place))
 
 pub balcumentri-number-spec : {M : Type 1} → statement M
-balcumentri-number-spec = tie.close (tie.spec returns rows-requires mul-row array-copy-out-row returns-2)
+balcumentri-number-spec = tie.close (tie.spec returns (λ c κs. search needs) (λ c. search needs) (λ c. search needs) returns-2)

@@ -4,15 +4,6 @@ use borrow.Author.Needs.{needs}
 use Rattle.exports.proofs.lookup.balcumentri_place.Statement.{statement}
 use Rattle.exports.proofs.lookup.balcumentri_place.Tie as tie
 
-lookup-requires : tie.Need-lookup-requires
-lookup-requires c κs = search needs
-
-enum-known-found : tie.Need-enum-known-found
-enum-known-found c = search needs
-
-enum-told : tie.Need-enum-told
-enum-told c = search needs
-
 returns : tie.Need-returns
 unfolding place
 returns c = rw (sym (c .before .before .lookup .ensures) ∙ c .enum-told .given .1)
@@ -22,5 +13,4 @@ unfolding place
 returns-2 c = rw (sym (c .before .before .before .lookup .ensures) ∙ c .before .found .given .1)
 
 pub balcumentri-place-spec : {M : Type 1} → statement M
-balcumentri-place-spec =
-    tie.close (tie.spec lookup-requires enum-known-found enum-told returns returns-2)
+balcumentri-place-spec = tie.close (tie.spec (λ c κs. search needs) (λ c. search needs) (λ c. search needs) returns returns-2)

@@ -2,4 +2,8 @@ use Rattle.exports.proofs.translation.balcumentri_translate.Statement.{
 use Rattle.exports.proofs.translation.balcumentri_translate.Tie as tie
 
 pub balcumentri-translate-spec : {M : Type 1} → statement M
-balcumentri-translate-spec = tie.close (tie.spec (λ c κs. tt) (λ c κs. tt) (λ c κs. tt) (λ c κs. tt) (λ c. c .before .before .put-translation .kept .1 .1 .1 .0) (λ c. rw (c .before .before .put-translation .ensures, c .before .before .before .before .translate .ensures, c .before .before .before .before .before .hart-of .ensures, c .before .before .before .before .before .before .kind-of .ensures)))
+balcumentri-translate-spec =
+    tie.close
+    (tie.spec
+    (λ c κs. tt) (λ c κs. tt) (λ c κs. tt) (λ c κs. tt) (λ c. c .before .before .put-translation .kept .1 .1 .1 .0)
+    (λ c. rw (c .before .before .put-translation .ensures, c .before .before .before .before .translate .ensures, c .before .before .before .before .before .hart-of .ensures, c .before .before .before .before .before .before .kind-of .ensures)))

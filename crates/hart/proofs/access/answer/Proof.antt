@@ -2,11 +2,8 @@ use borrow.Author.Needs.{needs}
 use Rattle.hart.proofs.access.answer.Statement.{statement}
 use Rattle.hart.proofs.access.answer.Tie as tie
 
-value-of-requires : tie.Need-value-of-requires
-value-of-requires c κs = search needs
-
 returns : tie.Need-returns
 returns c = rw (c .value-of .ensures)
 
 pub answer-spec : {M : Type 1} → statement M
-answer-spec = tie.close (tie.spec value-of-requires returns)
+answer-spec = tie.close (tie.spec (λ c κs. search needs) returns)

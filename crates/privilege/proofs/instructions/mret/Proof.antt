@@ -2,11 +2,8 @@ use borrow.Author.Needs.{needs}
 use Rattle.privilege.proofs.instructions.mret.Statement.{statement}
 use Rattle.privilege.proofs.instructions.mret.Tie as tie
 
-is-m-requires : tie.Need-is-m-requires
-is-m-requires c κs = search needs
-
 returns : tie.Need-returns
 returns c = rw (c .is-m .ensures)
 
 pub mret-spec : {M : Type 1} → statement M
-mret-spec = tie.close (tie.spec is-m-requires returns)
+mret-spec = tie.close (tie.spec (λ c κs. search needs) returns)

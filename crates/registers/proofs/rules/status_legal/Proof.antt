@@ -4,12 +4,9 @@ use borrow.Author.Needs.{needs}
 use Rattle.registers.proofs.rules.status_legal.Statement.{statement}
 use Rattle.registers.proofs.rules.status_legal.Tie as tie
 
-within-requires : tie.Need-within-requires
-within-requires c κs = search needs
-
 returns : tie.Need-returns
 unfolding legal put
 returns c = rw (c .within .ensures)
 
 pub status-legal-spec : {M : Type 1} → statement M
-status-legal-spec = tie.close (tie.spec within-requires returns)
+status-legal-spec = tie.close (tie.spec (λ c κs. search needs) returns)

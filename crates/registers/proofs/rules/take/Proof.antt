@@ -4,18 +4,6 @@ use Rattle.registers.proofs.Restrictions.{unrestricted, ignored-mode}
 use Rattle.registers.proofs.rules.take.Statement.{statement}
 use Rattle.registers.proofs.rules.take.Tie as tie
 
-mpp-fits-requires : tie.Need-mpp-fits-requires
-mpp-fits-requires c κs = search needs
-
-get-requires : tie.Need-get-requires
-get-requires c κs = search needs
-
-put-requires : tie.Need-put-requires
-put-requires c κs = search needs
-
-select-requires : tie.Need-select-requires
-select-requires c κs = search needs
-
 returns : tie.Need-returns
 returns c =
     rw (
@@ -26,18 +14,6 @@ returns c =
       c .before .before .before .before .if1 .taken,
     )
 
-mode-fits-requires : tie.Need-mode-fits-requires
-mode-fits-requires c κs = search needs
-
-get-requires-2 : tie.Need-get-requires-2
-get-requires-2 c κs = search needs
-
-put-requires-2 : tie.Need-put-requires-2
-put-requires-2 c κs = search needs
-
-select-requires-2 : tie.Need-select-requires-2
-select-requires-2 c κs = search needs
-
 returns-2 : tie.Need-returns-2
 returns-2 c =
     rw (
@@ -47,12 +23,6 @@ returns-2 c =
       c .before .before .before .mode-fits .ensures,
       c .before .before .before .before .if2 .taken,
     )
-
-mode-fits-requires-2 : tie.Need-mode-fits-requires-2
-mode-fits-requires-2 c κs = search needs
-
-select-requires-3 : tie.Need-select-requires-3
-select-requires-3 c κs = search needs
 
 returns-3 : tie.Need-returns-3
 returns-3 c =
@@ -70,17 +40,5 @@ pub take-spec : {M : Type 1} → statement M
 take-spec =
     tie.close
     (tie.spec
-    mpp-fits-requires
-    get-requires
-    put-requires
-    select-requires
-    returns
-    mode-fits-requires
-    get-requires-2
-    put-requires-2
-    select-requires-2
-    returns-2
-    mode-fits-requires-2
-    select-requires-3
-    returns-3
-    returns-4)
+    (λ c κs. search needs) (λ c κs. search needs) (λ c κs. search needs) (λ c κs. search needs) returns (λ c κs. search needs) (λ c κs. search needs)
+    (λ c κs. search needs) (λ c κs. search needs) returns-2 (λ c κs. search needs) (λ c κs. search needs) returns-3 returns-4)

@@ -4,26 +4,8 @@ use borrow.Author.Needs.{needs}
 use Rattle.rules.proofs.Need.leaf.Statement.{statement}
 use Rattle.rules.proofs.Need.leaf.Tie as tie
 
-is-malformed-requires : tie.Need-is-malformed-requires
-is-malformed-requires c κs = search needs
-
-rejects-requires : tie.Need-rejects-requires
-rejects-requires c κs = search needs
-
 returns : tie.Need-returns
 returns c = rw (rw (c .before .rejects .ensures, c .before .before .is-malformed .ensures) at (c .if1 .taken))
-
-mul-t9 : tie.Need-mul-t9
-mul-t9 c = search needs
-
-add-t10 : tie.Need-add-t10
-add-t10 c = search needs
-
-leads-to-requires : tie.Need-leads-to-requires
-leads-to-requires c κs = search needs
-
-get-requires : tie.Need-get-requires
-get-requires c κs = search needs
 
 add-t11 : tie.Need-add-t11
 add-t11 c =
@@ -37,12 +19,5 @@ pub leaf-spec : {M : Type 1} → statement M
 leaf-spec =
     tie.close
     (tie.spec
-    is-malformed-requires
-    rejects-requires
-    returns
-    mul-t9
-    add-t10
-    leads-to-requires
-    get-requires
-    add-t11
-    returns-2)
+    (λ c κs. search needs) (λ c κs. search needs) returns (λ c. search needs) (λ c. search needs) (λ c κs. search needs) (λ c κs. search needs)
+    add-t11 returns-2)

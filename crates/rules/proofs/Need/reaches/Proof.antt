@@ -2,17 +2,11 @@ use borrow.Author.Needs.{needs}
 use Rattle.rules.proofs.Need.reaches.Statement.{statement}
 use Rattle.rules.proofs.Need.reaches.Tie as tie
 
-has-requires : tie.Need-has-requires
-has-requires c κs = search needs
-
 returns : tie.Need-returns
 returns c = rw (c .if1 .taken, c .before .has .ensures)
-
-test-requires : tie.Need-test-requires
-test-requires c κs = search needs
 
 returns-2 : tie.Need-returns-2
 returns-2 c = rw (c .before .if1 .left, c .test .ensures, c .before .before .has .ensures)
 
 pub reaches-spec : {M : Type 1} → statement M
-reaches-spec = tie.close (tie.spec has-requires returns test-requires returns-2)
+reaches-spec = tie.close (tie.spec (λ c κs. search needs) returns (λ c κs. search needs) returns-2)

@@ -5,24 +5,6 @@ use borrow.Author.Needs.{needs}
 use Rattle.hart.proofs.state.Hart.access.Statement.{statement}
 use Rattle.hart.proofs.state.Hart.access.Tie as tie
 
-refusal-requires : tie.Need-refusal-requires
-refusal-requires c κs = search needs
-
-lookup-requires : tie.Need-lookup-requires
-lookup-requires c κs = search needs
-
-enum-known-found : tie.Need-enum-known-found
-enum-known-found c = search needs
-
-enum-told : tie.Need-enum-told
-enum-told c = search needs
-
-settle-requires : tie.Need-settle-requires
-settle-requires c κs = search needs
-
-answer-requires : tie.Need-answer-requires
-answer-requires c κs = search needs
-
 returns : tie.Need-returns
 unfolding access
 returns c = rw (c .answer .ensures, c .before .settle .ensures, c .before .before .before .before .before .refusal .ensures, sym (c .before .before .before .before .lookup .ensures) ∙ c .before .before .enum-told .given .1)
@@ -40,12 +22,5 @@ pub access-spec : {M : Type 1} → statement M
 access-spec =
     tie.close
     (tie.spec
-    refusal-requires
-    lookup-requires
-    enum-known-found
-    enum-told
-    settle-requires
-    answer-requires
-    returns
-    access-row-requires
-    returns-2)
+    (λ c κs. search needs) (λ c κs. search needs) (λ c. search needs) (λ c. search needs) (λ c κs. search needs) (λ c κs. search needs) returns
+    access-row-requires returns-2)

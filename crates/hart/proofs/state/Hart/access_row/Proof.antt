@@ -5,29 +5,11 @@ use borrow.Author.Needs.{needs}
 use Rattle.hart.proofs.state.Hart.access_row.Statement.{statement}
 use Rattle.hart.proofs.state.Hart.access_row.Tie as tie
 
-context-requires : tie.Need-context-requires
-context-requires c κs = search needs
-
-verdict-requires : tie.Need-verdict-requires
-verdict-requires c κs = search needs
-
-reached-requires : tie.Need-reached-requires
-reached-requires c κs = search needs
-
 seen-requires : tie.Need-seen-requires
 seen-requires c κs = rw (c .reached .ensures, c .before .before .before .pre .1) (reached-bound (c .before .before .before .args .self .v) (c .before .before .before .args .place) (c .before .before .before .pre .0))
 
-combine-requires : tie.Need-combine-requires
-combine-requires c κs = search needs
-
 written-requires : tie.Need-written-requires
 written-requires c κs = (rw (c .before .before .reached .ensures, c .before .before .before .before .before .pre .1) (reached-bound (c .before .before .before .before .before .args .self .v) (c .before .before .before .before .before .args .place) (c .before .before .before .before .before .pre .0)), rw (c .before .before .reached .ensures, c .before .before .before .before .before .pre .1) (sym (reached-mask (c .before .before .before .before .before .args .self .v) (c .before .before .before .before .before .args .place))))
-
-settle-requires : tie.Need-settle-requires
-settle-requires c κs = search needs
-
-answer-requires : tie.Need-answer-requires
-answer-requires c κs = search needs
 
 returns : tie.Need-returns
 unfolding accessRow
@@ -38,12 +20,5 @@ pub access-row-spec : {M : Type 1} → statement M
 access-row-spec =
     tie.close
     (tie.spec
-    context-requires
-    verdict-requires
-    reached-requires
-    seen-requires
-    combine-requires
-    written-requires
-    settle-requires
-    answer-requires
-    returns)
+    (λ c κs. search needs) (λ c κs. search needs) (λ c κs. search needs) seen-requires (λ c κs. search needs) written-requires (λ c κs. search needs)
+    (λ c κs. search needs) returns)

@@ -3,30 +3,6 @@ use borrow.Author.Needs.{needs}
 use Rattle.hart.proofs.state.Hart.deliver_vs.Statement.{statement}
 use Rattle.hart.proofs.state.Hart.deliver_vs.Tie as tie
 
-element-copy-out-tvec : tie.Need-element-copy-out-tvec
-element-copy-out-tvec c = search needs
-
-element-copy-out-enter-s : tie.Need-element-copy-out-enter-s
-element-copy-out-enter-s c = search needs
-
-enter-s-requires : tie.Need-enter-s-requires
-enter-s-requires c κs = search needs
-
-element-write-self : tie.Need-element-write-self
-element-write-self c = search needs
-
-element-write-self-2 : tie.Need-element-write-self-2
-element-write-self-2 c = search needs
-
-element-write-self-3 : tie.Need-element-write-self-3
-element-write-self-3 c = search needs
-
-element-write-self-4 : tie.Need-element-write-self-4
-element-write-self-4 c = search needs
-
-sub-self : tie.Need-sub-self
-sub-self c = search needs
-
 returns : tie.Need-returns
 unfolding deliveredVS
 returns c = rw (c .enter-s .ensures)
@@ -35,12 +11,5 @@ pub deliver-vs-spec : {M : Type 1} → statement M
 deliver-vs-spec =
     tie.close
     (tie.spec
-    element-copy-out-tvec
-    element-copy-out-enter-s
-    enter-s-requires
-    element-write-self
-    element-write-self-2
-    element-write-self-3
-    element-write-self-4
-    sub-self
-    returns)
+    (λ c. search needs) (λ c. search needs) (λ c κs. search needs) (λ c. search needs) (λ c. search needs) (λ c. search needs) (λ c. search needs)
+    (λ c. search needs) returns)

@@ -3,19 +3,9 @@ use borrow.Author.Needs.{needs}
 use Rattle.hart.proofs.state.Hart.hfence_vvma.Statement.{statement}
 use Rattle.hart.proofs.state.Hart.hfence_vvma.Tie as tie
 
-context-requires : tie.Need-context-requires
-context-requires c κs = search needs
-
-hfence-vvma-requires : tie.Need-hfence-vvma-requires
-hfence-vvma-requires c κs = search needs
-
-passing-requires : tie.Need-passing-requires
-passing-requires c κs = search needs
-
 returns : tie.Need-returns
 unfolding hfenceVvma
 returns c = rw (c .passing .ensures, c .before .hfence-vvma .ensures, c .before .before .context .ensures)
 
 pub hfence-vvma-spec : {M : Type 1} → statement M
-hfence-vvma-spec =
-    tie.close (tie.spec context-requires hfence-vvma-requires passing-requires returns)
+hfence-vvma-spec = tie.close (tie.spec (λ c κs. search needs) (λ c κs. search needs) (λ c κs. search needs) returns)

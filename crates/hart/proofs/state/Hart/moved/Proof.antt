@@ -2,11 +2,8 @@ use borrow.Author.Needs.{needs}
 use Rattle.hart.proofs.state.Hart.moved.Statement.{statement}
 use Rattle.hart.proofs.state.Hart.moved.Tie as tie
 
-wrapping-add-u64-requires : tie.Need-wrapping-add-u64-requires
-wrapping-add-u64-requires c κs = search needs
-
 returns : tie.Need-returns
 returns c = rw (c .wrapping-add-u64 .ensures)
 
 pub moved-spec : {M : Type 1} → statement M
-moved-spec = tie.close (tie.spec wrapping-add-u64-requires returns)
+moved-spec = tie.close (tie.spec (λ c κs. search needs) returns)

@@ -3,18 +3,6 @@ use borrow.Author.Needs.{needs}
 use Rattle.hart.proofs.state.Hart.passes.Statement.{statement}
 use Rattle.hart.proofs.state.Hart.passes.Tie as tie
 
-context-requires : tie.Need-context-requires
-context-requires c κs = search needs
-
-is-among-five-requires : tie.Need-is-among-five-requires
-is-among-five-requires c κs = search needs
-
-pass-requires : tie.Need-pass-requires
-pass-requires c κs = search needs
-
-has-stray-mprv-requires : tie.Need-has-stray-mprv-requires
-has-stray-mprv-requires c κs = search needs
-
 returns : tie.Need-returns
 unfolding passes
 returns c =
@@ -26,11 +14,4 @@ returns c =
     )
 
 pub passes-spec : {M : Type 1} → statement M
-passes-spec =
-    tie.close
-    (tie.spec
-    context-requires
-    is-among-five-requires
-    pass-requires
-    has-stray-mprv-requires
-    returns)
+passes-spec = tie.close (tie.spec (λ c κs. search needs) (λ c κs. search needs) (λ c κs. search needs) (λ c κs. search needs) returns)

@@ -3,22 +3,11 @@ use borrow.Author.Needs.{needs}
 use Rattle.hart.proofs.state.Hart.seen.Statement.{statement}
 use Rattle.hart.proofs.state.Hart.seen.Tie as tie
 
-element-copy-out-result : tie.Need-element-copy-out-result
-element-copy-out-result c = search needs
-
 returns : tie.Need-returns
 returns c = rw (eq-eqb _ _ (c .before .if1 .taken))
-
-mul-result : tie.Need-mul-result
-mul-result c = search needs
-
-element-copy-out-result-2 : tie.Need-element-copy-out-result-2
-element-copy-out-result-2 c = search needs
 
 returns-2 : tie.Need-returns-2
 returns-2 c = rw (ne-eqb _ _ (c .before .if1 .left))
 
 pub seen-spec : {M : Type 1} → statement M
-seen-spec =
-    tie.close
-    (tie.spec element-copy-out-result returns mul-result element-copy-out-result-2 returns-2)
+seen-spec = tie.close (tie.spec (λ c. search needs) returns (λ c. search needs) (λ c. search needs) returns-2)

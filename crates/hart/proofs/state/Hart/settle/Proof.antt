@@ -4,9 +4,6 @@ use borrow.Author.Needs.{needs}
 use Rattle.hart.proofs.state.Hart.settle.Statement.{statement}
 use Rattle.hart.proofs.state.Hart.settle.Tie as tie
 
-passes-requires : tie.Need-passes-requires
-passes-requires c κs = search needs
-
 returns : tie.Need-returns
 unfolding settled
 returns c = rw (rw (c .before .passes .ensures) at (c .if1 .taken))
@@ -15,15 +12,9 @@ returns-2 : tie.Need-returns-2
 unfolding settled
 returns-2 c = rw (rw (c .before .before .passes .ensures) at (c .before .if1 .left), ne-eqb _ _ (c .if2 .taken))
 
-raise-requires : tie.Need-raise-requires
-raise-requires c κs = search needs
-
 returns-3 : tie.Need-returns-3
 unfolding settled
 returns-3 c = rw (c .raise .ensures, rw (c .before .before .before .before .passes .ensures) at (c .before .before .before .if1 .left), eq-eqb _ _ (c .before .before .if2 .left), c .before .if3 .taken)
-
-raise-requires-2 : tie.Need-raise-requires-2
-raise-requires-2 c κs = search needs
 
 returns-4 : tie.Need-returns-4
 unfolding settled
@@ -37,11 +28,4 @@ pub settle-spec : {M : Type 1} → statement M
 settle-spec =
     tie.close
     (tie.spec
-    passes-requires
-    returns
-    returns-2
-    raise-requires
-    returns-3
-    raise-requires-2
-    returns-4
-    returns-5)
+    (λ c κs. search needs) returns returns-2 (λ c κs. search needs) returns-3 (λ c κs. search needs) returns-4 returns-5)

@@ -3,19 +3,9 @@ use borrow.Author.Needs.{needs}
 use Rattle.hart.proofs.state.Hart.sfence_vma.Statement.{statement}
 use Rattle.hart.proofs.state.Hart.sfence_vma.Tie as tie
 
-context-requires : tie.Need-context-requires
-context-requires c κs = search needs
-
-sfence-vma-requires : tie.Need-sfence-vma-requires
-sfence-vma-requires c κs = search needs
-
-passing-requires : tie.Need-passing-requires
-passing-requires c κs = search needs
-
 returns : tie.Need-returns
 unfolding sfenceVma
 returns c = rw (c .passing .ensures, c .before .sfence-vma .ensures, c .before .before .context .ensures)
 
 pub sfence-vma-spec : {M : Type 1} → statement M
-sfence-vma-spec =
-    tie.close (tie.spec context-requires sfence-vma-requires passing-requires returns)
+sfence-vma-spec = tie.close (tie.spec (λ c κs. search needs) (λ c κs. search needs) (λ c κs. search needs) returns)

@@ -2,11 +2,8 @@ use borrow.Author.Needs.{needs}
 use Rattle.hart.proofs.state.Hart.take_trap.Statement.{statement}
 use Rattle.hart.proofs.state.Hart.take_trap.Tie as tie
 
-deliver-requires : tie.Need-deliver-requires
-deliver-requires c κs = search needs
-
 returns : tie.Need-returns
 returns c = rw (c .deliver .ensures)
 
 pub take-trap-spec : {M : Type 1} → statement M
-take-trap-spec = tie.close (tie.spec deliver-requires returns)
+take-trap-spec = tie.close (tie.spec (λ c κs. search needs) returns)

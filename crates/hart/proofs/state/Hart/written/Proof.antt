@@ -10,26 +10,17 @@ use borrow.Author.Needs.{needs}
 use Rattle.hart.proofs.state.Hart.written.Statement.{statement}
 use Rattle.hart.proofs.state.Hart.written.Tie as tie
 
-home-requires : tie.Need-home-requires
-home-requires c κs = search needs
-
 mul-old : tie.Need-mul-old
 mul-old c = let h : c .home .result < 29 = rw (c .home .ensures) (home-bound _ (c .before .pre .0)) in record { fits = omega arith }
 
 element-copy-out-old : tie.Need-element-copy-out-old
 element-copy-out-old c = rw (c .home .ensures) (home-bound _ (c .before .pre .0))
 
-store-requires : tie.Need-store-requires
-store-requires c κs = search needs
-
 mul-self : tie.Need-mul-self
 mul-self c = let h : c .before .before .home .result < 29 = rw (c .before .before .home .ensures) (home-bound _ (c .before .before .before .pre .0)) in record { fits = omega arith }
 
 element-write-self : tie.Need-element-write-self
 element-write-self c = rw (c .before .before .home .ensures) (home-bound _ (c .before .before .before .pre .0))
-
-moved-requires : tie.Need-moved-requires
-moved-requires c κs = search needs
 
 returns : tie.Need-returns
 unfolding written
@@ -42,11 +33,4 @@ pub written-spec : {M : Type 1} → statement M
 written-spec =
     tie.close
     (tie.spec
-    home-requires
-    mul-old
-    element-copy-out-old
-    store-requires
-    mul-self
-    element-write-self
-    moved-requires
-    returns)
+    (λ c κs. search needs) mul-old element-copy-out-old (λ c κs. search needs) mul-self element-write-self (λ c κs. search needs) returns)

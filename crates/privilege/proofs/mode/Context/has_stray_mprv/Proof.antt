@@ -2,14 +2,8 @@ use borrow.Author.Needs.{needs}
 use Rattle.privilege.proofs.mode.Context.has_stray_mprv.Statement.{statement}
 use Rattle.privilege.proofs.mode.Context.has_stray_mprv.Tie as tie
 
-get-requires : tie.Need-get-requires
-get-requires c κs = search needs
-
-is-m-requires : tie.Need-is-m-requires
-is-m-requires c κs = search needs
-
 returns : tie.Need-returns
 returns c = rw (c .is-m .ensures, c .before .get .ensures)
 
 pub has-stray-mprv-spec : {M : Type 1} → statement M
-has-stray-mprv-spec = tie.close (tie.spec get-requires is-m-requires returns)
+has-stray-mprv-spec = tie.close (tie.spec (λ c κs. search needs) (λ c κs. search needs) returns)
