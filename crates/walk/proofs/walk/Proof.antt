@@ -1,5 +1,5 @@
 use mathlib.Core.Path.{sym, _∙_}
-use Prim.Native.Nat.{_-_}
+use Prim.Native.Nat.{_-_, _<_}
 use native.Mathlib.Omega.{arith}
 use lib.ListN.{length}
 use denote.Ref.{now}
@@ -45,50 +45,32 @@ returns-2 c =
     (ends L (a .base) N (a .a) (l .reads) (l .count) (Failed (accessFault (a .a)))
     (stands-outside L (a .base) N (a .a) (l .reads) (l .count) p (rw (c .before .before .before .before .before .before .next2 .given .1) at (l .inv)) (sym (c .before .before .before .fetch .ensures) ∙ c .before .enum-told .given .1)))
 
+-- where an entry is asked for there is a place for it
+room : (n : tie.After-next2 Inv-loop μ-loop) → n .before .before .loop .count < places
+room n =
+    let a = n .before .before .before .before .before .args in
+    let l = n .before .before .loop in
+    has-room (look (a .base) (now (a .bytes))) (a .base) (length (now (a .bytes))) (a .a) (l .reads) (l .count) (n .next2 .given .0 .0) (rw (n .next2 .given .1) at (l .inv))
+
 mul-reads : tie.Need-mul-reads Inv-loop μ-loop
-mul-reads c =
-    let a = c .before .before .before .before .before .before .before .before .before .before .before .before .args in
-    let L = look (a .base) (now (a .bytes)) in
-    let N = length (now (a .bytes)) in
-    let l = c .before .before .before .before .before .before .before .before .before .loop in
-    let h = has-room L (a .base) N (a .a) (l .reads) (l .count) (c .before .before .before .before .before .before .before .next2 .given .0 .0) (rw (c .before .before .before .before .before .before .before .next2 .given .1) at (l .inv)) in
-    omega (arith, h)
+mul-reads c = omega (arith, room (c .before .before .before .before .before .before .before))
 
 array-set-from-reads : tie.Need-array-set-from-reads Inv-loop μ-loop
 array-set-from-reads c =
-    let a = c .before .before .before .before .before .before .before .before .before .before .before .before .args in
-    let L = look (a .base) (now (a .bytes)) in
-    let N = length (now (a .bytes)) in
     let l = c .before .before .before .before .before .before .before .before .before .loop in
-    let h = has-room L (a .base) N (a .a) (l .reads) (l .count) (c .before .before .before .before .before .before .before .next2 .given .0 .0) (rw (c .before .before .before .before .before .before .before .next2 .given .1) at (l .inv)) in
-    omega (arith, h, l .inv .size)
+    omega (arith, room (c .before .before .before .before .before .before .before), l .inv .size)
 
 add-count : tie.Need-add-count Inv-loop μ-loop
-add-count c =
-    let a = c .before .before .before .before .before .before .before .before .before .before .before .before .args in
-    let L = look (a .base) (now (a .bytes)) in
-    let N = length (now (a .bytes)) in
-    let l = c .before .before .before .before .before .before .before .before .before .loop in
-    let h = has-room L (a .base) N (a .a) (l .reads) (l .count) (c .before .before .before .before .before .before .before .next2 .given .0 .0) (rw (c .before .before .before .before .before .before .before .next2 .given .1) at (l .inv)) in
-    omega (arith, h)
+add-count c = omega (arith, room (c .before .before .before .before .before .before .before))
 
 step-requires : tie.Need-step-requires Inv-loop μ-loop
 step-requires c κs =
-    let a = c .before .before .before .before .before .before .before .before .before .before .before .before .args in
-    let L = look (a .base) (now (a .bytes)) in
-    let N = length (now (a .bytes)) in
     let l = c .before .before .before .before .before .before .before .before .before .loop in
     let i = rw (c .before .before .before .before .before .before .before .next2 .given .1) at (l .inv) in
     (c .before .before .before .before .before .before .before .before .before .before .before .before .pre .0, i .sound)
 
 loop-less : tie.Need-loop-less Inv-loop μ-loop
-loop-less c =
-    let a = c .before .before .before .before .before .before .before .before .before .before .before .before .before .args in
-    let L = look (a .base) (now (a .bytes)) in
-    let N = length (now (a .bytes)) in
-    let l = c .before .before .before .before .before .before .before .before .before .before .loop in
-    let h = has-room L (a .base) N (a .a) (l .reads) (l .count) (c .before .before .before .before .before .before .before .before .next2 .given .0 .0) (rw (c .before .before .before .before .before .before .before .before .next2 .given .1) at (l .inv)) in
-    omega (arith, h)
+loop-less c = omega (arith, room (c .before .before .before .before .before .before .before .before))
 
 loop-again : tie.Need-loop-again Inv-loop μ-loop
 loop-again c =
