@@ -34,7 +34,10 @@ returns-2 : tie.Need-returns-2 Inv-loop μ-loop
 unfolding hartOf
 returns-2 c =
     let l = c .before .before .before .before .loop in
-    rw (eq-eqb _ _ (c .before .before .before .before .before .if1 .left), copied-all (l .regs) (c .before .before .before .before .before .before .args .ws .now) _ (l .i + 3) (l .i) (omega arith) (l .inv .2))
+    rw (
+      eq-eqb _ _ (c .before .before .before .before .before .if1 .left),
+      copied-all (l .regs) (c .before .before .before .before .before .before .args .ws .now) _ (l .i + 3) (l .i) (omega arith) (l .inv .2),
+    )
 
 pub hart-of-spec : {M : Type 1} → statement M
 hart-of-spec =

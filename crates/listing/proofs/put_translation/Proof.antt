@@ -26,7 +26,12 @@ returns-4 : tie.Need-returns-4
 unfolding putKind translationWords
 returns-4 c =
     let a = c .before .before .before .before .before .before .before .before .before .before .before .before .before .args in
-    rw (both-fit _ _ 67 (c .before .before .before .before .before .before .before .before .before .before .before .if1 .left) (c .before .before .before .before .before .before .before .before .before .before .if2 .left), le-ltb _ _ (c .before .before .before .before .before .before .before .before .before .if3 .left), c .before .before .put-reads .ensures, c .before .before .before .before .before .before .put-answer .ensures)
+    rw (
+      both-fit _ _ 67 (c .before .before .before .before .before .before .before .before .before .before .before .if1 .left) (c .before .before .before .before .before .before .before .before .before .before .if2 .left),
+      le-ltb _ _ (c .before .before .before .before .before .before .before .before .before .if3 .left),
+      c .before .before .put-reads .ensures,
+      c .before .before .before .before .before .before .put-answer .ensures,
+    )
     (ap (λ (ws : List ℕ). (0, ws)) (translation-written (a .t .answer) _ _ _))
 
 pub put-translation-spec : {M : Type 1} → statement M

@@ -11,7 +11,10 @@ returns c =
 returns-2 : tie.Need-returns-2
 unfolding badPointer
 returns-2 c =
-    rw (rw (c .before .before .has3 .ensures, c .before .before .before .has2 .ensures, c .before .before .before .before .has .ensures, c .before .before .before .before .before .is-malformed .ensures) at (c .before .if1 .left), c .leads-to .ensures .0)
+    rw (
+      rw (c .before .before .has3 .ensures, c .before .before .before .has2 .ensures, c .before .before .before .before .has .ensures, c .before .before .before .before .before .is-malformed .ensures) at (c .before .if1 .left),
+      c .leads-to .ensures .0,
+    )
 
 pub pointer-spec : {M : Type 1} → statement M
 pointer-spec =

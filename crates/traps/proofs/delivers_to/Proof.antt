@@ -7,11 +7,17 @@ returns c = rw (rw (c .before .before .is-m .ensures, c .before .has .ensures) a
 
 returns-2 : tie.Need-returns-2
 returns-2 c =
-    rw (rw (c .before .before .before .before .before .is-m .ensures, c .before .before .before .before .has .ensures) at (c .before .before .before .if1 .left), rw (c .before .has2 .ensures) at (c .if2 .taken))
+    rw (
+      rw (c .before .before .before .before .before .is-m .ensures, c .before .before .before .before .has .ensures) at (c .before .before .before .if1 .left),
+      rw (c .before .has2 .ensures) at (c .if2 .taken),
+    )
 
 returns-3 : tie.Need-returns-3
 returns-3 c =
-    rw (rw (c .before .before .before .before .before .is-m .ensures, c .before .before .before .before .has .ensures) at (c .before .before .before .if1 .left), rw (c .before .has2 .ensures) at (c .if2 .left))
+    rw (
+      rw (c .before .before .before .before .before .is-m .ensures, c .before .before .before .before .has .ensures) at (c .before .before .before .if1 .left),
+      rw (c .before .has2 .ensures) at (c .if2 .left),
+    )
 
 pub delivers-to-spec : {M : Type 1} → statement M
 delivers-to-spec = tie.close (tie.spec (λ c κs. search needs) (λ c κs. search needs) returns (λ c κs. search needs) returns-2 returns-3)

@@ -3,7 +3,15 @@ use Rattle.privilege.proofs.instructions.wfi.Statement.{statement}
 use Rattle.privilege.proofs.instructions.wfi.Tie as tie
 
 returns : tie.Need-returns
-returns c = rw (c .get2 .ensures, c .before .is-vs .ensures, c .before .before .is-vu .ensures, c .before .before .before .is-u .ensures, c .before .before .before .before .get .ensures, c .before .before .before .before .before .is-m .ensures)
+returns c =
+    rw (
+      c .get2 .ensures,
+      c .before .is-vs .ensures,
+      c .before .before .is-vu .ensures,
+      c .before .before .before .is-u .ensures,
+      c .before .before .before .before .get .ensures,
+      c .before .before .before .before .before .is-m .ensures,
+    )
 
 pub wfi-spec : {M : Type 1} → statement M
 wfi-spec =

@@ -6,7 +6,14 @@ use Rattle.registers.proofs.rules.machine_legal.Tie as tie
 
 returns : tie.Need-returns
 unfolding legal put
-returns c = rw (c .within4 .ensures, c .before .within3 .ensures, c .before .before .within2 .ensures, c .before .before .before .within .ensures, c .before .before .before .before .mpp-fits .ensures)
+returns c =
+    rw (
+      c .within4 .ensures,
+      c .before .within3 .ensures,
+      c .before .before .within2 .ensures,
+      c .before .before .before .within .ensures,
+      c .before .before .before .before .mpp-fits .ensures,
+    )
 
 pub machine-legal-spec : {M : Type 1} → statement M
 machine-legal-spec =

@@ -13,7 +13,12 @@ add-t11 c =
     omega (arith, c .get .ensures, c .before .leads-to .ensures .1, offset-lt (a .level) (a .address) (c .before .before .before .before .before .pre))
 
 returns-2 : tie.Need-returns-2
-returns-2 c = rw (rw (c .before .before .before .rejects .ensures, c .before .before .before .before .is-malformed .ensures) at (c .before .before .if1 .left), c .before .leads-to .ensures .0, c .get .ensures)
+returns-2 c =
+    rw (
+      rw (c .before .before .before .rejects .ensures, c .before .before .before .before .is-malformed .ensures) at (c .before .before .if1 .left),
+      c .before .leads-to .ensures .0,
+      c .get .ensures,
+    )
 
 pub leaf-spec : {M : Type 1} → statement M
 leaf-spec =

@@ -5,7 +5,15 @@ use Rattle.rules.proofs.Need.rejects.Tie as tie
 
 returns : tie.Need-returns
 unfolding badLeaf
-returns c = rw (c .grants .ensures, c .before .reaches .ensures, c .before .before .test .ensures, c .before .before .before .has2 .ensures, c .before .before .before .before .has .ensures, c .before .before .before .before .before .get .ensures)
+returns c =
+    rw (
+      c .grants .ensures,
+      c .before .reaches .ensures,
+      c .before .before .test .ensures,
+      c .before .before .before .has2 .ensures,
+      c .before .before .before .before .has .ensures,
+      c .before .before .before .before .before .get .ensures,
+    )
 
 pub rejects-spec : {M : Type 1} → statement M
 rejects-spec =

@@ -7,7 +7,13 @@ use Rattle.hart.proofs.state.Hart.access.Tie as tie
 
 returns : tie.Need-returns
 unfolding access
-returns c = rw (c .answer .ensures, c .before .settle .ensures, c .before .before .before .before .before .refusal .ensures, sym (c .before .before .before .before .lookup .ensures) ∙ c .before .before .enum-told .given .1)
+returns c =
+    rw (
+      c .answer .ensures,
+      c .before .settle .ensures,
+      c .before .before .before .before .before .refusal .ensures,
+      sym (c .before .before .before .before .lookup .ensures) ∙ c .before .before .enum-told .given .1,
+    )
 
 access-row-requires : tie.Need-access-row-requires
 access-row-requires c κs =
@@ -16,7 +22,12 @@ access-row-requires c κs =
 
 returns-2 : tie.Need-returns-2
 unfolding access
-returns-2 c = rw (c .access-row .ensures, c .before .before .before .before .before .refusal .ensures, sym (c .before .before .before .before .lookup .ensures) ∙ c .before .before .found .given .1)
+returns-2 c =
+    rw (
+      c .access-row .ensures,
+      c .before .before .before .before .before .refusal .ensures,
+      sym (c .before .before .before .before .lookup .ensures) ∙ c .before .before .found .given .1,
+    )
 
 pub access-spec : {M : Type 1} → statement M
 access-spec =

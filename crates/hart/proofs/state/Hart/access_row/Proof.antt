@@ -6,15 +6,31 @@ use Rattle.hart.proofs.state.Hart.access_row.Statement.{statement}
 use Rattle.hart.proofs.state.Hart.access_row.Tie as tie
 
 seen-requires : tie.Need-seen-requires
-seen-requires c κs = rw (c .reached .ensures, c .before .before .before .pre .1) (reached-bound (c .before .before .before .args .self .v) (c .before .before .before .args .place) (c .before .before .before .pre .0))
+seen-requires c κs =
+    let s = c .before .before .before in
+    rw (c .reached .ensures, s .pre .1) (reached-bound (s .args .self .v) (s .args .place) (s .pre .0))
 
 written-requires : tie.Need-written-requires
-written-requires c κs = (rw (c .before .before .reached .ensures, c .before .before .before .before .before .pre .1) (reached-bound (c .before .before .before .before .before .args .self .v) (c .before .before .before .before .before .args .place) (c .before .before .before .before .before .pre .0)), rw (c .before .before .reached .ensures, c .before .before .before .before .before .pre .1) (sym (reached-mask (c .before .before .before .before .before .args .self .v) (c .before .before .before .before .before .args .place))))
+written-requires c κs =
+    let s = c .before .before .before .before .before in
+    let to = c .before .before .reached .ensures in (
+      rw (to, s .pre .1) (reached-bound (s .args .self .v) (s .args .place) (s .pre .0)),
+      rw (to, s .pre .1) (sym (reached-mask (s .args .self .v) (s .args .place))),
+    )
 
 returns : tie.Need-returns
 unfolding accessRow
-returns c = rw
-    (c .answer .ensures, c .before .settle .ensures, c .before .before .written .ensures, c .before .before .before .combine .ensures, c .before .before .before .before .seen .ensures, c .before .before .before .before .before .reached .ensures, c .before .before .before .before .before .before .verdict .ensures, c .before .before .before .before .before .before .before .context .ensures)
+returns c =
+    rw (
+      c .answer .ensures,
+      c .before .settle .ensures,
+      c .before .before .written .ensures,
+      c .before .before .before .combine .ensures,
+      c .before .before .before .before .seen .ensures,
+      c .before .before .before .before .before .reached .ensures,
+      c .before .before .before .before .before .before .verdict .ensures,
+      c .before .before .before .before .before .before .before .context .ensures,
+    )
 
 pub access-row-spec : {M : Type 1} → statement M
 access-row-spec =

@@ -14,15 +14,34 @@ returns-2 c = rw (rw (c .before .before .passes .ensures) at (c .before .if1 .le
 
 returns-3 : tie.Need-returns-3
 unfolding settled
-returns-3 c = rw (c .raise .ensures, rw (c .before .before .before .before .passes .ensures) at (c .before .before .before .if1 .left), eq-eqb _ _ (c .before .before .if2 .left), c .before .if3 .taken)
+returns-3 c =
+    rw (
+      c .raise .ensures,
+      rw (c .before .before .before .before .passes .ensures) at (c .before .before .before .if1 .left),
+      eq-eqb _ _ (c .before .before .if2 .left),
+      c .before .if3 .taken,
+    )
 
 returns-4 : tie.Need-returns-4
 unfolding settled
-returns-4 c = rw (c .raise2 .ensures, rw (c .before .before .before .before .before .passes .ensures) at (c .before .before .before .before .if1 .left), eq-eqb _ _ (c .before .before .before .if2 .left), c .before .before .if3 .left, c .before .if4 .taken)
+returns-4 c =
+    rw (
+      c .raise2 .ensures,
+      rw (c .before .before .before .before .before .passes .ensures) at (c .before .before .before .before .if1 .left),
+      eq-eqb _ _ (c .before .before .before .if2 .left),
+      c .before .before .if3 .left,
+      c .before .if4 .taken,
+    )
 
 returns-5 : tie.Need-returns-5
 unfolding settled
-returns-5 c = rw (rw (c .before .before .before .before .passes .ensures) at (c .before .before .before .if1 .left), eq-eqb _ _ (c .before .before .if2 .left), c .before .if3 .left, c .if4 .left)
+returns-5 c =
+    rw (
+      rw (c .before .before .before .before .passes .ensures) at (c .before .before .before .if1 .left),
+      eq-eqb _ _ (c .before .before .if2 .left),
+      c .before .if3 .left,
+      c .if4 .left,
+    )
 
 pub settle-spec : {M : Type 1} → statement M
 settle-spec =
