@@ -1,4 +1,4 @@
--- What an access asks of a leaf, and the faults that end its walk.
+-- The faults of an access, and what it asks of a leaf.
 use mathlib.Core.Bool.{true, false}
 use Prim.Native.Nat.{ℕ, _/_}
 use Rattle.exceptions.specs.declared.Exception.{Exception}

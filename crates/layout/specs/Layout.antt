@@ -17,7 +17,7 @@ words h = h .v ∷ h .privilege ∷ h .pc ∷ h .regs
 abbrev pub said : List ℕ → Hart
 said ws = record { v = getD ws 0 0; privilege = getD ws 1 0; pc = getD ws 2 0; regs = drop 3 ws }
 
--- the hart that 32 words say; a blank one, which no call uses, where there are more words or fewer
+-- the hart that 32 words say; a blank one where there are more words or fewer: no call gives out what comes of it
 unfoldable pub hartOf : List ℕ → Hart
 hartOf ws = pick (eqb (length ws) 32) (said ws) (said (replicate 32 0))
 

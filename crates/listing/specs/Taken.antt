@@ -12,6 +12,6 @@ use Rattle.layout.specs.Taken.{misfit}
 unfoldable pub putKind : (hart n kind : ℕ) (out result : List ℕ) → ℕ × List ℕ
 putKind hart n kind out result = pick (misfit hart (length out) n) (1, out) (pick (ltb 2 kind) (2, out) (0, result))
 
--- the kinds of access by number: 0 fetch, 1 load, 2 store; no call uses the kind of a greater number
+-- the kinds of access by number: 0 fetch, 1 load, 2 store; a greater number reads as a store: no call gives out what comes of it
 unfoldable pub kindOf : ℕ → Kind
 kindOf n = pick (eqb n 0) Fetch (pick (eqb n 1) Load Store)
