@@ -57,8 +57,11 @@ accessRow h own place row form w writes =
     answer (settled h own (csr.verdict (context h) place row writes) (done (written h to (combined form old w) writes))) old
 
 -- an unlisted number: cause 2 in every mode, so that the step that would be done never is
+abbrev pub unlisted : Hart → ℕ → Accessed
+unlisted h own = answer (settled h own (verdict true false) (done h)) 0
+
 abbrev pub accessFound : Found → Hart → ℕ → Form → ℕ → Bool → Accessed
-accessFound Nothing h own form w writes = answer (settled h own (verdict true false) (done h)) 0
+accessFound Nothing h own form w writes = unlisted h own
 accessFound (At place row) h own form w writes = accessRow h own place row form w writes
 
 unfoldable pub access : Hart → Form → ℕ → ℕ → Bool → Accessed

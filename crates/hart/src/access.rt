@@ -3,7 +3,7 @@ ghost use mathlib.Core.Path.{_≡_};
 ghost use Prim.Native.Nat.{_<_};
 ghost use Rattle.registers.specs.Registers.{at};
 ghost use Rattle.table.specs.Table.{rowOf};
-ghost use Rattle.hart.specs.Access.{seen, written, valueOf, answer, accessRow, access, read, write, set, clear};
+ghost use Rattle.hart.specs.Access.{seen, written, valueOf, answer, accessRow, unlisted, access, read, write, set, clear};
 use crate::event::Outcome;
 use crate::event::Step;
 use crate::state::Hart;
@@ -83,15 +83,18 @@ impl Hart {
         let to = csr::reached(self.v, row.level, place);
         let old = self.seen(to);
         let next = self.written(to, row.mask, csr::combine(form, old, w), writes);
-        let s = self.settle(
-            own,
-            verdict,
-            Step {
-                hart: next,
-                outcome: Outcome::Done,
-            },
-        );
-        answer(s, old)
+        answer(self.finish(own, verdict, next), old)
+    }
+
+    // An access to a number that no register has.
+    fn unlisted(self, own: u64) -> Accessed
+        ensures { λ r. ⌜ r ≡ unlisted self own ⌝ }
+    {
+        let verdict = Verdict {
+            gives2: true,
+            gives22: false,
+        };
+        answer(self.finish(own, verdict, self), 0)
     }
 
     // An access to the register with a number.
@@ -101,19 +104,7 @@ impl Hart {
         let own = csr::refusal(number);
         let found = table::lookup(number);
         let Found::At(place, row) = found else {
-            let unlisted = Verdict {
-                gives2: true,
-                gives22: false,
-            };
-            let s = self.settle(
-                own,
-                unlisted,
-                Step {
-                    hart: self,
-                    outcome: Outcome::Done,
-                },
-            );
-            return answer(s, 0);
+            return self.unlisted(own);
         };
         self.access_row(own, place, row, form, w, writes)
     }

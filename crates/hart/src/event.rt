@@ -1,6 +1,6 @@
 // What an event comes to, and the order in which it is settled.
 ghost use mathlib.Core.Path.{_≡_};
-ghost use Rattle.hart.specs.Event.{trapped, cause-only, raised, settled, moved};
+ghost use Rattle.hart.specs.Event.{done, trapped, cause-only, raised, settled, moved};
 use crate::state::Hart;
 use exceptions::Exception;
 use privilege::mode::Verdict;
@@ -73,6 +73,20 @@ impl Hart {
             return self.raise(22);
         }
         finished
+    }
+
+    // The same, where the step that is done leaves the hart next.
+    pub fn finish(self, own: u64, verdict: Verdict, next: Hart) -> Step
+        ensures { λ r. ⌜ r ≡ settled self own verdict (done next) ⌝ }
+    {
+        self.settle(
+            own,
+            verdict,
+            Step {
+                hart: next,
+                outcome: Outcome::Done,
+            },
+        )
     }
 
     // pc moves on by 4, wrapping.

@@ -1,7 +1,6 @@
 // MRET and SRET.
 ghost use mathlib.Core.Path.{_≡_};
 ghost use Rattle.hart.specs.Return.{returnedM, returnedHS, returnedVS, returnedS, mret, sret};
-use crate::event::Outcome;
 use crate::event::Step;
 use crate::state::Hart;
 use privilege::instructions;
@@ -59,27 +58,13 @@ impl Hart {
         ensures { λ r. ⌜ r ≡ mret self ⌝ }
     {
         let verdict = instructions::mret(self.context());
-        self.settle(
-            0,
-            verdict,
-            Step {
-                hart: self.return_m(),
-                outcome: Outcome::Done,
-            },
-        )
+        self.finish(0, verdict, self.return_m())
     }
 
     pub fn sret(self) -> Step
         ensures { λ r. ⌜ r ≡ sret self ⌝ }
     {
         let verdict = instructions::sret(self.context());
-        self.settle(
-            0,
-            verdict,
-            Step {
-                hart: self.return_s(),
-                outcome: Outcome::Done,
-            },
-        )
+        self.finish(0, verdict, self.return_s())
     }
 }

@@ -1,7 +1,6 @@
 // WFI and the fences: those that don't trap only move pc.
 ghost use mathlib.Core.Path.{_≡_};
 ghost use Rattle.hart.specs.Wait.{passing, wfi, sfenceVma, hfenceVvma, hfenceGvma};
-use crate::event::Outcome;
 use crate::event::Step;
 use crate::state::Hart;
 use privilege::instructions;
@@ -11,14 +10,7 @@ impl Hart {
     fn passing(self, verdict: Verdict) -> Step
         ensures { λ r. ⌜ r ≡ passing self verdict ⌝ }
     {
-        self.settle(
-            0,
-            verdict,
-            Step {
-                hart: self.moved(),
-                outcome: Outcome::Done,
-            },
-        )
+        self.finish(0, verdict, self.moved())
     }
 
     pub fn wfi(self) -> Step

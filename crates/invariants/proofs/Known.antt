@@ -26,9 +26,9 @@ use Rattle.rules.specs.declared.Kind.the-variants.{Load}
 use Rattle.rules.specs.Address.{first, wellFormed, extended, small, index}
 use Rattle.rules.specs.Entry.{malformed, badPointer, badLeaf, faulty, judged}
 use Rattle.access.specs.declared.Machine.{Machine}
-use Rattle.walk.specs.declared.Read.{Read}
-use Rattle.walk.specs.Tree.{Ran, bind, run}
-use Rattle.walk.specs.Stages.{Outcome, yields, faults, follow, inspect, down, begin, final, walkOf}
+use Rattle.stages.specs.declared.Read.{Read}
+use Rattle.stages.specs.Tree.{Ran, bind, run}
+use Rattle.stages.specs.Stages.{Outcome, yields, faults, follow, inspect, down, begin, final, walkOf}
 
 -- what a replay answers, and what it should
 pub record Replay : Type 0 where

@@ -6,9 +6,9 @@ use native.Mathlib.Omega.{arith}
 use lib.ListN.{length, getD, take, drop, set, drop-of-length-le}
 use lib.Seq.{drop-cons, sets, sets-eq}
 use Rattle.bits.specs.Field.{pick}
-use Rattle.walk.specs.declared.Read.{Read}
-use Rattle.walk.specs.Tree.{item}
-use Rattle.walk.specs.Stages.{machine}
+use Rattle.stages.specs.declared.Read.{Read}
+use Rattle.stages.specs.Tree.{item}
+use Rattle.stages.specs.Stages.{machine}
 use Rattle.translate.specs.declared.Answer.{Answer}
 use Rattle.listing.specs.Listing.{answerWords, readWords}
 

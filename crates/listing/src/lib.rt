@@ -5,9 +5,9 @@ ghost use lib.ListN.{length, take, drop};
 ghost use Rattle.listing.specs.Listing.{answerWords, readWords, translationWords};
 ghost use Rattle.listing.specs.Taken.{kindOf, putKind};
 use rules::Kind;
+use stages::Read;
 use translate::Answer;
 use translate::Translated;
-use walk::Read;
 
 // The kind of access with a number.
 pub fn kind_of(n: u64) -> Kind

@@ -5,10 +5,10 @@ use hart::state::Hart;
 use libc::STDOUT_FILENO;
 use registers::places;
 use rules::Kind;
+use stages::Read;
 use translate::Answer;
 use translate::Translated;
 use translate::translate;
-use walk::Read;
 
 // A row of the table is an entry, with its offset in the image from bit 32 up, and from bit 60 up what is done once it is there.
 const AT: u64 = 32;

@@ -22,9 +22,9 @@ use Rattle.access.specs.declared.Machine.{Machine}
 use Rattle.access.specs.declared.Root.{Root}
 use Rattle.access.specs.Faults.{misalignment}
 use Rattle.walk.specs.declared.Walked.{Walked}
-use Rattle.walk.specs.Tree.{bind, run}
-use Rattle.walk.specs.Stages.{Outcome, yields, faults, look, begin, final, walkOf}
-use Rattle.walk.specs.Listed.{reached, walked}
+use Rattle.stages.specs.Tree.{bind, run}
+use Rattle.stages.specs.Stages.{Outcome, yields, faults, look, begin, final, walkOf}
+use Rattle.walk.specs.Walked.{reached, walked}
 use Rattle.walk.specs.Place.{outcome, Tables}
 use Rattle.translate.specs.declared.Answer.{Answer}
 use Rattle.effective.specs.declared.Mode.{Mode}

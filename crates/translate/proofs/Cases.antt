@@ -12,8 +12,8 @@ use Rattle.image.specs.Image.{unfit}
 use Rattle.rules.specs.declared.Kind.{Kind}
 use Rattle.access.specs.declared.Machine.{Machine}
 use Rattle.access.specs.Faults.{misalignment}
-use Rattle.walk.specs.Tree.{Ran, run}
-use Rattle.walk.specs.Stages.{Outcome, look, walkOf}
+use Rattle.stages.specs.Tree.{Ran, run}
+use Rattle.stages.specs.Stages.{Outcome, look, walkOf}
 use Rattle.translate.specs.declared.Answer.{Answer}
 use Rattle.translate.specs.declared.Translated.{Translated}
 use Rattle.effective.specs.Effective.{accessOf}

@@ -22,8 +22,8 @@ use Rattle.access.specs.declared.Access.{Access}
 use Rattle.access.specs.declared.Guest.{Guest}
 use Rattle.access.specs.declared.Machine.{Machine}
 use Rattle.access.specs.Faults.{raised, misalignment, accessFault, pageFault, guestPageFault, entryFault}
-use Rattle.walk.specs.Stages.{Outcome, yields, faults, look}
-use Rattle.walk.proofs.Raised.{every-fault}
+use Rattle.stages.specs.Stages.{Outcome, yields, faults, look}
+use Rattle.stages.proofs.Raised.{every-fault}
 use Rattle.translate.specs.declared.Answer.{Answer}
 use Rattle.translate.specs.declared.Translated.{Translated}
 use Rattle.effective.specs.Effective.{effective, accessOf, secondRoot}

@@ -16,14 +16,14 @@ use Rattle.rules.specs.declared.Kind.{Kind}
 use Rattle.access.specs.declared.Access.{Access}
 use Rattle.access.specs.declared.Machine.{Machine}
 use Rattle.access.specs.Faults.{misalignment, secondNeed, entryNeed}
-use Rattle.walk.specs.declared.Read.{Read}
-use Rattle.walk.specs.Tree.{Walk, Ran, run}
-use Rattle.walk.specs.Stages.{Outcome, yields, faults, look, walkOf}
-use Rattle.walk.specs.Listed.{places, unused}
-use Rattle.walk.specs.Through.{Agree, EndsThrough}
-use Rattle.walk.proofs.Bounds.{at-most}
-use Rattle.walk.proofs.Images.{same-walk}
-use Rattle.walk.proofs.Guarded.{guest-entry, answer-page}
+use Rattle.stages.specs.declared.Read.{Read}
+use Rattle.stages.specs.Tree.{Walk, Ran, run}
+use Rattle.stages.specs.Stages.{Outcome, yields, faults, look, walkOf}
+use Rattle.stages.specs.Listed.{places, unused}
+use Rattle.stages.specs.Through.{Agree, EndsThrough}
+use Rattle.stages.proofs.Bounds.{at-most}
+use Rattle.stages.proofs.Images.{same-walk}
+use Rattle.stages.proofs.Guarded.{guest-entry, answer-page}
 use Rattle.translate.specs.declared.Answer.{Answer}
 use Rattle.translate.specs.declared.Translated.{Translated}
 use Rattle.effective.specs.Effective.{accessOf}

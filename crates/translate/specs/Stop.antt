@@ -9,7 +9,7 @@ use Rattle.rules.specs.declared.Kind.{Kind}
 use Rattle.access.specs.declared.Access.{Access}
 use Rattle.access.specs.declared.Machine.{Machine}
 use Rattle.access.specs.Faults.{misalignment}
-use Rattle.walk.specs.Stages.{Outcome}
+use Rattle.stages.specs.Stages.{Outcome}
 use Rattle.translate.specs.declared.Answer.{Answer}
 use Rattle.translate.specs.declared.Stop.{Stop}
 use Rattle.translate.specs.declared.Stop.the-variants.{Refused, Misaligned, Walks}

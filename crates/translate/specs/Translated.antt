@@ -12,9 +12,9 @@ use Rattle.rules.specs.declared.Kind.{Kind}
 use Rattle.rules.specs.Kind.{by}
 use Rattle.access.specs.declared.Machine.{Machine}
 use Rattle.access.specs.Faults.{misalignment}
-use Rattle.walk.specs.Tree.{Ran, run}
-use Rattle.walk.specs.Stages.{Outcome, yields, faults, look, walkOf}
-use Rattle.walk.specs.Listed.{places, unused, padded}
+use Rattle.stages.specs.Tree.{Ran, run}
+use Rattle.stages.specs.Stages.{Outcome, yields, faults, look, walkOf}
+use Rattle.stages.specs.Listed.{places, unused, padded}
 use Rattle.translate.specs.declared.Answer.{Answer}
 use Rattle.translate.specs.declared.Translated.{Translated}
 use Rattle.effective.specs.Effective.{accessOf}

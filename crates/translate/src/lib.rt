@@ -9,8 +9,8 @@ use access::Machine;
 use exceptions::Exception;
 use hart::state::Hart;
 use rules::Kind;
+use stages::Read;
 use walk::Reached;
-use walk::Read;
 
 pub enum Answer {
     Address(Machine),

@@ -1,9 +1,3 @@
-pub mod Trees
-pub mod Runs
-pub mod Bounds
+pub mod Arrays
 pub mod Loops
-pub mod Images
-pub mod Offsets
-pub mod Guarded
-pub mod Raised
 pub mod Places

@@ -15,16 +15,17 @@ use Rattle.access.specs.Faults.{accessFault}
 use Rattle.walk.specs.declared.Next.{Next}
 use Rattle.walk.specs.declared.Next.the-variants.{Look, Ended}
 use Rattle.walk.specs.declared.Place.{Place}
-use Rattle.walk.specs.declared.Read.{Read}
+use Rattle.stages.specs.declared.Read.{Read}
 use Rattle.walk.specs.declared.Reached.{Reached}
 use Rattle.walk.specs.declared.Reached.the-variants.{Failed}
 use Rattle.walk.specs.declared.Walked.{Walked}
-use Rattle.walk.specs.Tree.{done, item, run}
-use Rattle.walk.specs.Stages.{faults, walkOf, machine}
-use Rattle.walk.specs.Listed.{places, unused, walked}
+use Rattle.stages.specs.Tree.{done, item, run}
+use Rattle.stages.specs.Stages.{faults, walkOf, machine}
+use Rattle.stages.specs.Listed.{places, unused}
+use Rattle.walk.specs.Walked.{walked}
 use Rattle.walk.specs.Place.{after, rest, SoundNext, Leads}
-use Rattle.walk.proofs.Runs.{into, handed, walked-into, same-reached}
-use Rattle.walk.proofs.Bounds.{Within, within-run, within-ask, within-walk, within-more}
+use Rattle.walk.proofs.Arrays.{into, handed, walked-into, same-reached}
+use Rattle.stages.proofs.Bounds.{Within, within-run, within-ask, within-walk, within-more}
 
 module _ (look : Machine → Entry) (base len : ℕ) (a : Access) where
   -- where the loop stands: the rest of the walk, put behind the list so far, is the whole walk

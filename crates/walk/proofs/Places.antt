@@ -13,10 +13,10 @@ use Rattle.access.specs.declared.Machine.{Machine}
 use Rattle.access.specs.Faults.{pageFault, entryFault, entryNeed}
 use Rattle.walk.specs.declared.Next.the-variants.{Look}
 use Rattle.walk.specs.declared.Place.{Place}
-use Rattle.walk.specs.Tree.{done, bind}
-use Rattle.walk.specs.Stages.{yields, faults, Translation, _then_, slot, inspect, down, begin, translation, guest, machine, second-of, first-of, final, walkOf}
+use Rattle.stages.specs.Tree.{done, bind}
+use Rattle.stages.specs.Stages.{yields, faults, Translation, _then_, slot, inspect, down, begin, translation, guest, machine, second-of, first-of, final, walkOf}
 use Rattle.walk.specs.Place.{faultAt, second-at, below, arrived, entered, rest}
-use Rattle.walk.proofs.Trees.{then-assoc}
+use Rattle.stages.proofs.Trees.{then-assoc, begin-off, begin-at}
 
 -- from a level down, over what a pointer leads to
 pub down-at : {A : Type 0} (t : Translation A) (level table : ℕ) → down t level table ≡ t .through (slot t level table) then inspect t level (below t level)
@@ -28,18 +28,6 @@ pub below-at : {A : Type 0} (t : Translation A) (level table : ℕ) → 0 < leve
 unfolding below
 below-at t zero table h = absurd (omega arith)
 below-at t (suc l) table h = let e : suc l - 1 ≡ l = omega arith in rw e
-
--- a stage that is off
-pub begin-off : {A : Type 0} (t : Translation A) (levels : ℕ) → levels ≡ 0 → begin t levels ≡ done (yields (t .kind (t .address)))
-unfolding begin
-begin-off t levels e = rw e
-
--- a stage that is on
-pub begin-at : {A : Type 0} (t : Translation A) (levels : ℕ) → 0 < levels
-    → begin t levels ≡ pick (wellFormed (t .stage) levels (t .address)) (down t (levels - 1) (t .tables .ppn * 4096)) (done (faults (t .fault)))
-unfolding begin
-begin-at t zero h = absurd (omega arith)
-begin-at t (suc l) h = let e : suc l - 1 ≡ l = omega arith in rw e
 
 module _ (base len : ℕ) (a : Access) where
   abbrev place : (level left : ℕ) → Machine → Guest → Place

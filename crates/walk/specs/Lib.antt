@@ -1,5 +1,2 @@
-pub mod Tree
-pub mod Stages
-pub mod Listed
-pub mod Through
+pub mod Walked
 pub mod Place

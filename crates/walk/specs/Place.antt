@@ -15,8 +15,8 @@ use Rattle.walk.specs.declared.Next.the-variants.{Look, Ended}
 use Rattle.walk.specs.declared.Place.{Place}
 use Rattle.walk.specs.declared.Reached.{Reached}
 use Rattle.walk.specs.declared.Reached.the-variants.{At, Failed}
-use Rattle.walk.specs.Tree.{Walk, done, ask}
-use Rattle.walk.specs.Stages.{Outcome, yields, faults, Translation, _then_, follow, inspect, down, translation, second-of, first-of, last, final}
+use Rattle.stages.specs.Tree.{Walk, done, ask}
+use Rattle.stages.specs.Stages.{Outcome, yields, faults, Translation, _then_, follow, inspect, down, translation, second-of, first-of, last, final}
 
 -- what the second stage needs and raises: for the access itself where no first-stage level is left, else for a guest entry
 abbrev pub needAt : Access → ℕ → Need

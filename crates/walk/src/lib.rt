@@ -5,9 +5,9 @@ ghost use Prim.Native.Nat.{_≤_, _<_};
 ghost use lib.ListN.{length};
 ghost use Rattle.rules.specs.Entry.{judged};
 ghost use Rattle.access.specs.Faults.{firstNeed};
-ghost use Rattle.walk.specs.Tree.{run};
-ghost use Rattle.walk.specs.Stages.{look, walkOf, onward, last};
-ghost use Rattle.walk.specs.Listed.{walked, reached};
+ghost use Rattle.stages.specs.Tree.{run};
+ghost use Rattle.stages.specs.Stages.{look, walkOf, onward, last};
+ghost use Rattle.walk.specs.Walked.{walked, reached};
 ghost use Rattle.walk.specs.Place.{needAt, faultAt, needOf, addressOf, arrived, entered, outcome, secondAfter, firstAfter, after, Tables, Sound, Leads};
 use access::Access;
 use access::Guest;
@@ -19,14 +19,7 @@ use image::fetch;
 use image::inside;
 use rules::Need;
 use rules::Verdict;
-
-// One entry of the list; its stage is 1 for the first, 2 for the second.
-pub struct Read {
-    pub stage: u64,
-    pub level: u64,
-    pub address: Machine,
-    pub value: u64,
-}
+use stages::Read;
 
 // What a walk comes to.
 pub enum Reached {

@@ -1,6 +1,6 @@
 use mathlib.Core.Path.{refl, ap}
 use native.Mathlib.Omega.{arith}
-use Rattle.walk.specs.Tree.{done}
+use Rattle.stages.specs.Tree.{done}
 use Rattle.walk.specs.Place.{arrived, rest}
 use Rattle.walk.proofs.Places.{arrived-entry}
 use borrow.Author.Needs.{needs}

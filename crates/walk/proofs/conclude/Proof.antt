@@ -1,5 +1,5 @@
 use mathlib.Core.Path.{sym, ap, _∙_}
-use Rattle.walk.specs.Stages.{faults, last}
+use Rattle.stages.specs.Stages.{faults, last}
 use borrow.Author.Needs.{needs}
 use Rattle.walk.proofs.conclude.Statement.{statement}
 use Rattle.walk.proofs.conclude.Tie as tie

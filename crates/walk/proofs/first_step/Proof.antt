@@ -2,8 +2,8 @@ use mathlib.Core.Path.{sym, ap, _∙_}
 use native.Mathlib.Omega.{arith}
 use Rattle.exceptions.specs.declared.Exception.{Exception}
 use Rattle.rules.proofs.Verdicts.{pointer-bounds}
-use Rattle.walk.specs.Tree.{done, bind}
-use Rattle.walk.specs.Stages.{faults, follow, guest}
+use Rattle.stages.specs.Tree.{done, bind}
+use Rattle.stages.specs.Stages.{faults, follow, guest}
 use Rattle.walk.specs.Place.{rest}
 use Rattle.walk.proofs.Places.{first-pointer, entered-last}
 use borrow.Author.Needs.{needs}

@@ -1,8 +1,8 @@
 use mathlib.Core.Path.{sym, _∙_}
 use native.Mathlib.Omega.{arith}
 use Rattle.rules.proofs.Verdicts.{pointer-bounds}
-use Rattle.walk.specs.Tree.{bind}
-use Rattle.walk.specs.Stages.{follow}
+use Rattle.stages.specs.Tree.{bind}
+use Rattle.stages.specs.Stages.{follow}
 use Rattle.walk.proofs.Places.{second-pointer}
 use borrow.Author.Needs.{needs}
 use Rattle.walk.proofs.second_step.Statement.{statement}

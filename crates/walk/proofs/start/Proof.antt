@@ -3,8 +3,8 @@ use native.Mathlib.Omega.{arith}
 use Prim.Native.Nat.{_<_}
 use borrow.Author.Tests.{not-true, not-false}
 use Rattle.exceptions.specs.declared.Exception.{Exception}
-use Rattle.walk.specs.Tree.{done}
-use Rattle.walk.specs.Stages.{faults}
+use Rattle.stages.specs.Tree.{done}
+use Rattle.stages.specs.Stages.{faults}
 use Rattle.walk.specs.Place.{rest}
 use Rattle.walk.proofs.Places.{start-off, start-bad, start-on}
 use borrow.Author.Needs.{needs}

@@ -6,8 +6,8 @@ use denote.Ref.{now}
 use borrow.Author.Needs.{needs}
 use Rattle.access.specs.Faults.{accessFault}
 use Rattle.walk.specs.declared.Reached.the-variants.{Failed}
-use Rattle.walk.specs.Stages.{look}
-use Rattle.walk.specs.Listed.{places}
+use Rattle.stages.specs.Stages.{look}
+use Rattle.stages.specs.Listed.{places}
 use Rattle.walk.proofs.Loops.{Stands, stands-first, ends, has-room, stands-outside, stands-next}
 use Rattle.walk.proofs.walk.Statement.{statement}
 use Rattle.walk.proofs.walk.Tie as tie

@@ -9,10 +9,9 @@ returns : tie.Need-returns
 unfolding access
 returns c =
     rw (
-      c .answer .ensures,
-      c .before .settle .ensures,
-      c .before .before .before .before .before .refusal .ensures,
-      sym (c .before .before .before .before .lookup .ensures) ∙ c .before .before .enum-told .given .1,
+      c .unlisted .ensures,
+      c .before .before .before .before .refusal .ensures,
+      sym (c .before .before .before .lookup .ensures) ∙ c .before .enum-told .given .1,
     )
 
 access-row-requires : tie.Need-access-row-requires
@@ -33,5 +32,4 @@ pub access-spec : {M : Type 1} → statement M
 access-spec =
     tie.close
     (tie.spec
-    (λ c κs. search needs) (λ c κs. search needs) (λ c. search needs) (λ c. search needs) (λ c κs. search needs) (λ c κs. search needs) returns
-    access-row-requires returns-2)
+    (λ c κs. search needs) (λ c κs. search needs) (λ c. search needs) (λ c. search needs) (λ c κs. search needs) returns access-row-requires returns-2)

@@ -23,7 +23,7 @@ unfolding accessRow
 returns c =
     rw (
       c .answer .ensures,
-      c .before .settle .ensures,
+      c .before .finish .ensures,
       c .before .before .written .ensures,
       c .before .before .before .combine .ensures,
       c .before .before .before .before .seen .ensures,

@@ -15,7 +15,7 @@ use Rattle.access.specs.declared.Guest.{Guest}
 use Rattle.access.specs.declared.Machine.{Machine}
 use Rattle.access.specs.declared.Root.{Root}
 use Rattle.access.specs.Faults.{accessFault, pageFault, guestPageFault, entryFault, firstNeed, secondNeed, entryNeed}
-use Rattle.walk.specs.Tree.{Walk, done, ask, bind}
+use Rattle.stages.specs.Tree.{Walk, done, ask, bind}
 
 abbrev pub guest : ℕ → Guest
 guest x = record { 0 = x }

@@ -4,7 +4,7 @@ use Prim.Native.Nat.{ℕ}
 use Rattle.image.specs.declared.Entry.{Entry}
 use Rattle.image.specs.declared.Entry.the-variants.{Value, Outside}
 use Rattle.access.specs.declared.Machine.{Machine}
-use Rattle.walk.specs.declared.Read.{Read}
+use Rattle.stages.specs.declared.Read.{Read}
 
 -- `ask` has what follows an entry outside the image, and what follows a value.
 pub data Walk (A : Type 0) : Type 0 where

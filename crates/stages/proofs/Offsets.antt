@@ -17,9 +17,9 @@ use Rattle.rules.specs.Address.{number, wellFormed}
 use Rattle.rules.specs.Entry.{PPN, target, offset, judged}
 use Rattle.rules.proofs.Verdicts.{is-leaf}
 use Rattle.access.specs.declared.Machine.{Machine}
-use Rattle.walk.specs.Tree.{Walk, done, item, listed, found, run}
-use Rattle.walk.specs.Stages.{Outcome, yields, faults, onward, _then_, Translation, slot, follow, inspect, down, begin, translation}
-use Rattle.walk.proofs.Runs.{run-bind}
+use Rattle.stages.specs.Tree.{Walk, done, item, listed, found, run}
+use Rattle.stages.specs.Stages.{Outcome, yields, faults, onward, _then_, Translation, slot, follow, inspect, down, begin, translation}
+use Rattle.stages.proofs.Runs.{run-bind}
 
 pub never : {A : Type 0} {P : Type 0} (f : Exception) (x : A) → _≡_ {A = Outcome A} (faults f) (yields x) → P
 never f x e = clash (cc)

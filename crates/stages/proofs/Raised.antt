@@ -17,9 +17,9 @@ use Rattle.access.specs.declared.Access.{Access}
 use Rattle.access.specs.declared.Guest.{Guest}
 use Rattle.access.specs.declared.Machine.{Machine}
 use Rattle.access.specs.Faults.{accessFault, pageFault, guestPageFault, entryFault, secondNeed, entryNeed}
-use Rattle.walk.specs.Tree.{Walk, done, ask, bind, item, listed, found, run}
-use Rattle.walk.specs.Stages.{Outcome, yields, faults, _then_, Translation, slot, follow, inspect, down, begin, translation, guest, second-of, first-of, last, final, walkOf}
-use Rattle.walk.proofs.Offsets.{never}
+use Rattle.stages.specs.Tree.{Walk, done, ask, bind, item, listed, found, run}
+use Rattle.stages.specs.Stages.{Outcome, yields, faults, _then_, Translation, slot, follow, inspect, down, begin, translation, guest, second-of, first-of, last, final, walkOf}
+use Rattle.stages.proofs.Offsets.{never}
 
 module _ (P : Exception → Type 0) where
   -- P holds of every fault that a walk can end with

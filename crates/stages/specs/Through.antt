@@ -10,9 +10,9 @@ use Rattle.rules.specs.Address.{second, number, index}
 use Rattle.rules.specs.Entry.{U, pointer, granted, faulty, target}
 use Rattle.access.specs.declared.Machine.{Machine}
 use Rattle.access.specs.declared.Root.{Root}
-use Rattle.walk.specs.declared.Read.{Read}
-use Rattle.walk.specs.Tree.{item}
-use Rattle.walk.specs.Stages.{machine}
+use Rattle.stages.specs.declared.Read.{Read}
+use Rattle.stages.specs.Tree.{item}
+use Rattle.stages.specs.Stages.{machine}
 
 -- two images agree on the entries of a list
 abbrev pub Agree : (Machine → Entry) → (Machine → Entry) → List Read → Type 0

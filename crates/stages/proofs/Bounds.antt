@@ -18,8 +18,8 @@ use Rattle.access.specs.declared.Access.{Access}
 use Rattle.access.specs.declared.Guest.{Guest}
 use Rattle.access.specs.declared.Machine.{Machine}
 use Rattle.access.specs.Faults.{guestPageFault, secondNeed}
-use Rattle.walk.specs.Tree.{Walk, done, ask, bind, item, listed, found, run}
-use Rattle.walk.specs.Stages.{Outcome, yields, faults, Translation, _then_, follow, inspect, down, begin, translation, second-of, first-of, last, final, walkOf}
+use Rattle.stages.specs.Tree.{Walk, done, ask, bind, item, listed, found, run}
+use Rattle.stages.specs.Stages.{Outcome, yields, faults, Translation, _then_, follow, inspect, down, begin, translation, second-of, first-of, last, final, walkOf}
 
 -- a walk asks at most n times on any way
 abbrev pub Within : {A : Type 0} → Walk A → ℕ → Type 0

@@ -21,13 +21,13 @@ use Rattle.access.specs.declared.Access.{Access}
 use Rattle.access.specs.declared.Guest.{Guest}
 use Rattle.access.specs.declared.Machine.{Machine}
 use Rattle.access.specs.Faults.{accessFault, entryFault, guestPageFault, firstNeed, secondNeed, entryNeed}
-use Rattle.walk.specs.declared.Read.{Read}
-use Rattle.walk.specs.Tree.{Walk, done, ask, bind, item, Ran, listed, found, run}
-use Rattle.walk.specs.Stages.{Outcome, yields, faults, onward, _then_, Translation, slot, follow, inspect, down, begin, translation, guest, machine, second-of, first-of, last, final, walkOf}
-use Rattle.walk.specs.Through.{secondItem, Descent, at-leaf, by-pointer, LetThrough, EndsThrough}
-use Rattle.walk.proofs.Places.{begin-at}
-use Rattle.walk.proofs.Runs.{run-bind}
-use Rattle.walk.proofs.Offsets.{never, room, keeps-low}
+use Rattle.stages.specs.declared.Read.{Read}
+use Rattle.stages.specs.Tree.{Walk, done, ask, bind, item, Ran, listed, found, run}
+use Rattle.stages.specs.Stages.{Outcome, yields, faults, onward, _then_, Translation, slot, follow, inspect, down, begin, translation, guest, machine, second-of, first-of, last, final, walkOf}
+use Rattle.stages.specs.Through.{secondItem, Descent, at-leaf, by-pointer, LetThrough, EndsThrough}
+use Rattle.stages.proofs.Trees.{begin-at}
+use Rattle.stages.proofs.Runs.{run-bind}
+use Rattle.stages.proofs.Offsets.{never, room, keeps-low}
 
 -- ---- a second stage that yields an address has let it through
 

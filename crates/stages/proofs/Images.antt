@@ -10,9 +10,9 @@ use Rattle.image.specs.declared.Entry.{Entry}
 use Rattle.image.specs.declared.Entry.the-variants.{Value, Outside}
 use Rattle.image.specs.Image.{within, eight, entry}
 use Rattle.access.specs.declared.Machine.{Machine}
-use Rattle.walk.specs.Tree.{Walk, done, ask, item, listed, found, run}
-use Rattle.walk.specs.Stages.{look}
-use Rattle.walk.specs.Through.{Agree}
+use Rattle.stages.specs.Tree.{Walk, done, ask, item, listed, found, run}
+use Rattle.stages.specs.Stages.{look}
+use Rattle.stages.specs.Through.{Agree}
 
 -- two images lack the same entries
 abbrev SameGaps : (Machine → Entry) → (Machine → Entry) → Type 0

@@ -1,0 +1,4 @@
+pub mod Tree
+pub mod Stages
+pub mod Listed
+pub mod Through

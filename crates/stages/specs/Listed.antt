@@ -1,0 +1,18 @@
+-- The list of reads in an array.
+use mathlib.Core.List.{List, _++_}
+use Prim.Native.Nat.{ℕ, _-_}
+use lib.ListN.{length, replicate}
+use Rattle.stages.specs.declared.Read.{Read}
+use Rattle.stages.specs.Tree.{item}
+use Rattle.stages.specs.Stages.{machine}
+
+-- "The list of reads holds fifteen places"
+abbrev pub places : ℕ
+places = 15
+
+-- "unused places are zero"
+abbrev pub unused : ℕ → List Read
+unused n = replicate n (item 0 0 (machine 0) 0)
+
+abbrev pub padded : ℕ → List Read → List Read
+padded n xs = xs ++ unused (n - length xs)

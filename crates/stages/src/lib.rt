@@ -1,0 +1,10 @@
+// The walk written out, in specs/; here the list's item. No function: walk runs it.
+use access::Machine;
+
+// One entry of the list; its stage is 1 for the first, 2 for the second.
+pub struct Read {
+    pub stage: u64,
+    pub level: u64,
+    pub address: Machine,
+    pub value: u64,
+}
