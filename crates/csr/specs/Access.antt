@@ -8,8 +8,8 @@ use Rattle.table.specs.declared.Row.{Row}
 use Rattle.registers.specs.Fields.{TVM, VTVM}
 use Rattle.registers.specs.Places.{sstatus, satp, mstatus, hgatp}
 use Rattle.registers.specs.Registers.{supervisor, hypervisor, machine}
-use Rattle.privilege.specs.declared.mode.Context.{Context}
-use Rattle.privilege.specs.declared.mode.Verdict.{Verdict}
+use Rattle.privilege.specs.declared.Context.{Context}
+use Rattle.privilege.specs.declared.Verdict.{Verdict}
 use Rattle.csr.specs.declared.Form.{Form}
 use Rattle.csr.specs.declared.Form.the-variants.{Read, Write, Set, Clear}
 use Rattle.privilege.specs.Mode.{isU, isHS, isVU, isVS, isSet}

@@ -5,8 +5,8 @@ ghost use Rattle.csr.specs.Access.{refusal, verdict, combined, reached, 
 ghost use Rattle.bits.specs.Field.{pick};
 ghost use Rattle.registers.specs.Rules.{stored};
 ghost use Rattle.registers.specs.Registers.{at};
-use privilege::mode::Context;
-use privilege::mode::Verdict;
+use privilege::Context;
+use privilege::Verdict;
 use registers::fields::TVM;
 use registers::fields::VTVM;
 use registers::places;

@@ -3,7 +3,7 @@ use mathlib.Core.Bool.{false, not}
 use Prim.Native.Nat.{ℕ, _+_, _%_, _^_}
 use lib.Dec.{eqb}
 use Rattle.bits.specs.Field.{pick}
-use Rattle.privilege.specs.declared.mode.Verdict.{Verdict}
+use Rattle.privilege.specs.declared.Verdict.{Verdict}
 use Rattle.exceptions.specs.declared.Exception.{Exception}
 use Rattle.hart.specs.declared.state.Hart.{Hart}
 use Rattle.hart.specs.declared.event.Outcome.{Outcome}

@@ -5,7 +5,7 @@ use lib.Dec.{eqb}
 use lib.ListN.{getD}
 use Rattle.registers.specs.Places.{mstatus, hstatus}
 use Rattle.registers.specs.File.{initial, registersPass}
-use Rattle.privilege.specs.declared.mode.Context.{Context}
+use Rattle.privilege.specs.declared.Context.{Context}
 use Rattle.privilege.specs.Mode.{amongFive, strayMPRV}
 use Rattle.hart.specs.declared.state.Hart.{Hart}
 

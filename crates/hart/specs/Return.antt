@@ -6,7 +6,7 @@ use Rattle.bits.specs.Assign.{_after_}
 use Rattle.registers.specs.Fields.{MPP, SPP, SPV}
 use Rattle.registers.specs.Places.{sepc, vsstatus, vsepc, mstatus, mepc, hstatus}
 use Rattle.status.specs.Return.{vAfterMret, fromM, fromS, fromHS, fromH}
-use Rattle.privilege.specs.Instructions as instructions
+use Rattle.instructions.specs.Instructions as instructions
 use Rattle.hart.specs.declared.state.Hart.{Hart}
 use Rattle.hart.specs.declared.event.Step.{Step}
 use Rattle.registers.specs.File.{Write, _↢_, _with_}

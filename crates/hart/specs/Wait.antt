@@ -1,6 +1,6 @@
 -- WFI and fences that don't trap only move pc (document 01, "Traps and returns").
-use Rattle.privilege.specs.declared.mode.Verdict.{Verdict}
-use Rattle.privilege.specs.Instructions as instructions
+use Rattle.privilege.specs.declared.Verdict.{Verdict}
+use Rattle.instructions.specs.Instructions as instructions
 use Rattle.hart.specs.declared.state.Hart.{Hart}
 use Rattle.hart.specs.declared.event.Step.{Step}
 use Rattle.hart.specs.Hart.{context}

@@ -8,7 +8,7 @@ use crate::event::Outcome;
 use crate::event::Step;
 use crate::state::Hart;
 use csr::Form;
-use privilege::mode::Verdict;
+use privilege::Verdict;
 use registers::masks;
 use registers::places;
 use table::Found;

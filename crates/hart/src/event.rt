@@ -3,7 +3,7 @@ ghost use mathlib.Core.Path.{_≡_};
 ghost use Rattle.hart.specs.Event.{done, trapped, cause-only, raised, settled, moved};
 use crate::state::Hart;
 use exceptions::Exception;
-use privilege::mode::Verdict;
+use privilege::Verdict;
 
 // The event was done, it trapped with a cause, or it was refused with document 01's number.
 pub enum Outcome {

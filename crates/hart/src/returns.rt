@@ -3,7 +3,6 @@ ghost use mathlib.Core.Path.{_≡_};
 ghost use Rattle.hart.specs.Return.{returnedM, returnedHS, returnedVS, returnedS, mret, sret};
 use crate::event::Step;
 use crate::state::Hart;
-use privilege::instructions;
 use registers::fields::MPP;
 use registers::fields::SPP;
 use registers::fields::SPV;

@@ -1,7 +1,7 @@
 // What a hart holds, and check 2.
 ghost use mathlib.Core.Path.{_≡_};
 ghost use Rattle.hart.specs.Hart.{reset, context, passes};
-use privilege::mode::Context;
+use privilege::Context;
 use registers::file;
 use registers::places;
 

@@ -5,7 +5,7 @@ use crate::event;
 use crate::event::Step;
 use crate::state::Hart;
 use exceptions::Exception;
-use privilege::mode::Verdict;
+use privilege::Verdict;
 
 impl Hart {
     // The trap is taken, unless refused.

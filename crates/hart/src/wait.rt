@@ -3,8 +3,7 @@ ghost use mathlib.Core.Path.{_≡_};
 ghost use Rattle.hart.specs.Wait.{passing, wfi, sfenceVma, hfenceVvma, hfenceGvma};
 use crate::event::Step;
 use crate::state::Hart;
-use privilege::instructions;
-use privilege::mode::Verdict;
+use privilege::Verdict;
 
 impl Hart {
     fn passing(self, verdict: Verdict) -> Step

@@ -11,7 +11,7 @@ use Rattle.table.specs.declared.Found.the-variants.{At, Nothing}
 use Rattle.registers.specs.Registers.{at}
 use Rattle.table.specs.Table.{rowOf, table, firstAt}
 use Rattle.table.proofs.Listed.{lookup-found}
-use Rattle.privilege.specs.declared.mode.Verdict.{Verdict}
+use Rattle.privilege.specs.declared.Verdict.{Verdict}
 use Rattle.exceptions.specs.declared.Exception.{Exception}
 use Rattle.privilege.specs.Mode.{isM}
 use Rattle.csr.specs.Access as csr

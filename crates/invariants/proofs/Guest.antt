@@ -18,7 +18,7 @@ use Rattle.registers.specs.Registers.{hypervisor, machine, Register, register, 
 use Rattle.table.specs.Table.{rowOf, table, firstAt}
 use Rattle.privilege.specs.Mode.{isU, isHS, isVU, isVS, isSet}
 use Rattle.csr.specs.Access as csr
-use Rattle.privilege.specs.declared.mode.Verdict.{Verdict}
+use Rattle.privilege.specs.declared.Verdict.{Verdict}
 use Rattle.csr.specs.declared.Form.{Form}
 use Rattle.hart.specs.declared.state.Hart.{Hart}
 use Rattle.hart.specs.declared.event.Outcome.the-variants.{Done}

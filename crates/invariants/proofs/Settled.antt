@@ -5,7 +5,7 @@ use Prim.Native.Nat.{ℕ}
 use lib.Dec.{eqb}
 use borrow.Author.Tests.{eqb-true, not-true, not-false}
 use Rattle.bits.specs.Field.{pick}
-use Rattle.privilege.specs.declared.mode.Verdict.{Verdict}
+use Rattle.privilege.specs.declared.Verdict.{Verdict}
 use Rattle.hart.specs.declared.state.Hart.{Hart}
 use Rattle.hart.specs.declared.event.Step.{Step}
 use Rattle.hart.specs.Hart.{passes}

@@ -5,8 +5,8 @@ use lib.Dec.{eqb}
 use Rattle.bits.specs.declared.Field.{Field}
 use Rattle.bits.specs.Field.{get}
 use Rattle.registers.specs.Fields.{MPRV}
-use Rattle.privilege.specs.declared.mode.Context.{Context}
-use Rattle.privilege.specs.declared.mode.Verdict.{Verdict}
+use Rattle.privilege.specs.declared.Context.{Context}
+use Rattle.privilege.specs.declared.Verdict.{Verdict}
 
 abbrev pub isU : Context → Bool
 isU c = eqb (c .v) 0 && eqb (c .privilege) 0

@@ -9,7 +9,7 @@ use lib.ListN.{length}
 use borrow.Author.Tests.{eqb-true}
 use Rattle.bits.proofs.Bools.{clash}
 use Rattle.exceptions.specs.declared.Exception.{Exception}
-use Rattle.privilege.specs.declared.mode.Context.{Context}
+use Rattle.privilege.specs.declared.Context.{Context}
 use Rattle.traps.specs.Request.{impossible}
 use Rattle.hart.specs.declared.state.Hart.{Hart}
 use Rattle.hart.specs.Hart.{context, passes}

@@ -3,7 +3,7 @@ use mathlib.Core.Bool.{_&&_, _||_, not}
 use Prim.Native.Nat.{ℕ}
 use lib.Dec.{eqb}
 use Rattle.bits.specs.Field.{pick, has}
-use Rattle.privilege.specs.declared.mode.Context.{Context}
+use Rattle.privilege.specs.declared.Context.{Context}
 use Rattle.exceptions.specs.declared.Exception.{Exception}
 use Rattle.traps.specs.declared.Target.{Target}
 use Rattle.traps.specs.declared.Target.the-variants.{M, HS, VS}

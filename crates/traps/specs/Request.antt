@@ -2,7 +2,7 @@
 use mathlib.Core.Bool.{Bool, _&&_, _||_, not}
 use Prim.Native.Nat.{ℕ}
 use lib.Dec.{eqb, leb}
-use Rattle.privilege.specs.declared.mode.Context.{Context}
+use Rattle.privilege.specs.declared.Context.{Context}
 use Rattle.exceptions.specs.declared.Exception.{Exception}
 use Rattle.privilege.specs.Mode.{isU, isHS, isM, isVU, isVS}
 

@@ -3,7 +3,7 @@ ghost use mathlib.Core.Path.{_≡_};
 ghost use Rattle.traps.specs.Request.{isCall, isGuestPage, unknown, wrongMode, wrongValue, neverFlagged, wrongFlag, impossible};
 ghost use Rattle.traps.specs.Delivery.{target, callCause, breakpoint};
 use exceptions::Exception;
-use privilege::mode::Context;
+use privilege::Context;
 
 pub enum Target {
     M,
