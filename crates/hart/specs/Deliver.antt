@@ -5,9 +5,9 @@ use Rattle.bits.specs.Assign.{_after_}
 use Rattle.registers.specs.Places.{stvec, sepc, scause, stval, vsstatus, vstvec, vsepc, vscause, vstval, mstatus, medeleg, mtvec, mepc, mcause, mtval, mtinst, mtval2, hstatus, hedeleg, htval, htinst}
 use Rattle.status.specs.Trap.{intoM, intoS, intoH}
 use Rattle.exceptions.specs.declared.Exception.{Exception}
-use Rattle.traps.specs.declared.Target.{Target}
-use Rattle.traps.specs.declared.Target.the-variants.{M, HS, VS}
-use Rattle.traps.specs.Delivery.{target}
+use Rattle.delivery.specs.declared.Target.{Target}
+use Rattle.delivery.specs.declared.Target.the-variants.{M, HS, VS}
+use Rattle.delivery.specs.Delivery.{target}
 use Rattle.hart.specs.declared.state.Hart.{Hart}
 use Rattle.registers.specs.File.{Write, _↢_, _with_}
 use Rattle.hart.specs.Hart.{reg, context}

@@ -5,7 +5,7 @@ use Rattle.bits.specs.Field.{pick}
 use Rattle.exceptions.specs.declared.Exception.{Exception}
 use Rattle.privilege.specs.Mode.{verdict}
 use Rattle.traps.specs.Request.{impossible}
-use Rattle.traps.specs.Delivery.{callCause, breakpoint}
+use Rattle.delivery.specs.Delivery.{callCause, breakpoint}
 use Rattle.hart.specs.declared.state.Hart.{Hart}
 use Rattle.hart.specs.declared.event.Step.{Step}
 use Rattle.hart.specs.Hart.{context}

@@ -2,9 +2,9 @@
 ghost use mathlib.Core.Path.{_≡_};
 ghost use Rattle.hart.specs.Deliver.{deliveredM, deliveredHS, deliveredVS, delivered};
 use crate::state::Hart;
+use delivery::Target;
 use exceptions::Exception;
 use registers::places;
-use traps::Target;
 
 impl Hart {
     fn deliver_m(mut self, t: Exception) -> Hart
@@ -65,7 +65,7 @@ impl Hart {
     pub fn deliver(self, t: Exception) -> Hart
         ensures { λ r. ⌜ r ≡ delivered self t ⌝ }
     {
-        let to = traps::delivers_to(
+        let to = delivery::delivers_to(
             self.context(),
             self.regs[places::MEDELEG],
             self.regs[places::HEDELEG],

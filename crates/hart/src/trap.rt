@@ -34,7 +34,7 @@ impl Hart {
     pub fn ecall(self) -> Step
         ensures { λ r. ⌜ r ≡ ecall self ⌝ }
     {
-        let cause = traps::call_cause(self.context());
+        let cause = delivery::call_cause(self.context());
         self.trapping(0, event::cause_only(cause))
     }
 
@@ -42,6 +42,6 @@ impl Hart {
     pub fn ebreak(self) -> Step
         ensures { λ r. ⌜ r ≡ ebreak self ⌝ }
     {
-        self.trapping(0, traps::breakpoint(self.v, self.pc))
+        self.trapping(0, delivery::breakpoint(self.v, self.pc))
     }
 }

@@ -15,7 +15,7 @@ use Rattle.privilege.specs.declared.Verdict.{Verdict}
 use Rattle.exceptions.specs.declared.Exception.{Exception}
 use Rattle.privilege.specs.Mode.{isM}
 use Rattle.csr.specs.Access as csr
-use Rattle.traps.specs.Delivery.{callCause, breakpoint}
+use Rattle.delivery.specs.Delivery.{callCause, breakpoint}
 use Rattle.hart.specs.declared.state.Hart.{Hart}
 use Rattle.hart.specs.declared.event.Step.{Step}
 use Rattle.csr.specs.declared.Form.{Form}

@@ -30,9 +30,9 @@ use Rattle.status.specs.Trap.{intoM, intoS, intoH}
 use Rattle.status.specs.Return.{fromM, fromS, fromHS, fromH}
 use Rattle.status.proofs.Kept.{stays, Privilege, intoM-fine}
 use Rattle.exceptions.specs.declared.Exception.{Exception}
-use Rattle.traps.specs.declared.Target.{Target}
-use Rattle.traps.specs.declared.Target.the-variants.{M, HS, VS}
-use Rattle.traps.specs.Delivery.{target}
+use Rattle.delivery.specs.declared.Target.{Target}
+use Rattle.delivery.specs.declared.Target.the-variants.{M, HS, VS}
+use Rattle.delivery.specs.Delivery.{target}
 use Rattle.privilege.specs.Mode.{isU, isHS, isM, isSet}
 use Rattle.csr.specs.Access as csr
 use Rattle.hart.specs.declared.state.Hart.{Hart}

@@ -13,9 +13,9 @@ use Rattle.registers.specs.Places.{vsstatus, vsatp, medeleg, hedeleg}
 use Rattle.registers.specs.Registers.{at}
 use Rattle.exceptions.specs.declared.Exception.{Exception}
 use Rattle.privilege.specs.Mode.{isM}
-use Rattle.traps.specs.declared.Target.{Target}
-use Rattle.traps.specs.declared.Target.the-variants.{M, HS, VS}
-use Rattle.traps.specs.Delivery.{target}
+use Rattle.delivery.specs.declared.Target.{Target}
+use Rattle.delivery.specs.declared.Target.the-variants.{M, HS, VS}
+use Rattle.delivery.specs.Delivery.{target}
 use Rattle.hart.specs.declared.state.Hart.{Hart}
 use Rattle.hart.specs.declared.event.Step.{Step}
 use Rattle.hart.specs.Hart.{reg, context}

@@ -1,15 +1,8 @@
-// Traps: which requests can't arise, where a trap goes, and the cause of an environment call.
+// Trap requests that can't arise.
 ghost use mathlib.Core.Path.{_≡_};
 ghost use Rattle.traps.specs.Request.{isCall, isGuestPage, unknown, wrongMode, wrongValue, neverFlagged, wrongFlag, impossible};
-ghost use Rattle.traps.specs.Delivery.{target, callCause, breakpoint};
 use exceptions::Exception;
 use privilege::Context;
-
-pub enum Target {
-    M,
-    HS,
-    VS,
-}
 
 fn is_call(cause: u64) -> bool
     ensures { λ r. ⌜ r ≡ isCall cause ⌝ }
@@ -65,37 +58,4 @@ pub fn impossible(c: Context, t: Exception) -> bool
     ensures { λ r. ⌜ r ≡ impossible c t ⌝ }
 {
     unknown(t.cause) | (wrong_mode(c, t.cause) | (wrong_value(t) | wrong_flag(c, t)))
-}
-
-pub fn delivers_to(c: Context, medeleg: u64, hedeleg: u64, cause: u64) -> Target
-    ensures { λ r. ⌜ r ≡ target c medeleg hedeleg cause ⌝ }
-{
-    if c.is_m() | !bits::has(cause, medeleg) {
-        return Target::M;
-    }
-    if (c.v == 1) & bits::has(cause, hedeleg) {
-        return Target::VS;
-    }
-    Target::HS
-}
-
-// The cause of an environment call, by mode.
-pub fn call_cause(c: Context) -> u64
-    ensures { λ r. ⌜ r ≡ callCause c ⌝ }
-{
-    let other = bits::select(c.is_hs(), 9, 8);
-    bits::select(c.is_m(), 11, bits::select(c.is_vs(), 10, other))
-}
-
-// A breakpoint at pc.
-pub fn breakpoint(v: u64, pc: u64) -> Exception
-    ensures { λ r. ⌜ r ≡ breakpoint v pc ⌝ }
-{
-    Exception {
-        cause: 3,
-        value: pc,
-        second: 0,
-        word: 0,
-        flag: v == 1,
-    }
 }

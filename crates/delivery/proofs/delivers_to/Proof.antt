@@ -1,6 +1,6 @@
 use borrow.Author.Needs.{needs}
-use Rattle.traps.proofs.delivers_to.Statement.{statement}
-use Rattle.traps.proofs.delivers_to.Tie as tie
+use Rattle.delivery.proofs.delivers_to.Statement.{statement}
+use Rattle.delivery.proofs.delivers_to.Tie as tie
 
 returns : tie.Need-returns
 returns c = rw (rw (c .before .before .is-m .ensures, c .before .has .ensures) at (c .if1 .taken))

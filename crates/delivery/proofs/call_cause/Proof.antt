@@ -1,6 +1,6 @@
 use borrow.Author.Needs.{needs}
-use Rattle.traps.proofs.call_cause.Statement.{statement}
-use Rattle.traps.proofs.call_cause.Tie as tie
+use Rattle.delivery.proofs.call_cause.Statement.{statement}
+use Rattle.delivery.proofs.call_cause.Tie as tie
 
 returns : tie.Need-returns
 returns c =

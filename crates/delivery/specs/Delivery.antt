@@ -5,8 +5,8 @@ use lib.Dec.{eqb}
 use Rattle.bits.specs.Field.{pick, has}
 use Rattle.privilege.specs.declared.Context.{Context}
 use Rattle.exceptions.specs.declared.Exception.{Exception}
-use Rattle.traps.specs.declared.Target.{Target}
-use Rattle.traps.specs.declared.Target.the-variants.{M, HS, VS}
+use Rattle.delivery.specs.declared.Target.{Target}
+use Rattle.delivery.specs.declared.Target.the-variants.{M, HS, VS}
 use Rattle.privilege.specs.Mode.{isHS, isM, isVS}
 
 -- from M to M; otherwise to M if medeleg's bit for the cause is 0; else to VS if V=1 and hedeleg's bit is 1; else to HS
