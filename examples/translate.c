@@ -36,9 +36,9 @@ int main(void)
         fprintf(stderr, "translate: a slice has a wrong length\n");
         return 1;
     }
-    if (out[0] == 0)
+    if (out[0] == BALCUMENTRI_ADDRESS)
         printf("address %" PRIx64 "\n", out[1]);
-    else if (out[0] == 1)
+    else if (out[0] == BALCUMENTRI_REFUSED)
         printf("refused %" PRIx64 "\n", out[1]);
     else
         printf("fault %" PRIx64 " %" PRIx64 " %" PRIx64 " %" PRIx64 " %" PRIx64 "\n", out[1], out[2], out[3], out[4],

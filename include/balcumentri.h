@@ -25,8 +25,8 @@
  *   34        the value answered, 0 where the access trapped or was refused
  *
  * A translation's result, 67 words (the hart stays as it is):
- *   0         0 an address, 1 a refusal, 2 a fault
- *   1         the address, the refusal's number, the fault's cause
+ *   0         0 an address, 1 a fault, 2 refused
+ *   1         the address, the fault's cause, the refusal's number
  *   2 to 5    the fault's value, second value, instruction word and guest-address flag, else 0
  *   6         how many entries were read
  *   7 to 66   fifteen places of four words, in the order of the reads: stage (1 first, 2 second), level, machine address, value;
@@ -51,6 +51,13 @@ extern "C" {
 #define BALCUMENTRI_STEP_WORDS 34
 #define BALCUMENTRI_ACCESS_WORDS 35
 #define BALCUMENTRI_TRANSLATION_WORDS 67
+
+/* What an event or a translation came to. */
+#define BALCUMENTRI_DONE 0
+#define BALCUMENTRI_TRAPPED 1
+#define BALCUMENTRI_ADDRESS 0
+#define BALCUMENTRI_FAULT 1
+#define BALCUMENTRI_REFUSED 2
 
 #define BALCUMENTRI_FETCH 0
 #define BALCUMENTRI_LOAD 1

@@ -1,9 +1,6 @@
--- The faults of an access, and what it asks of a leaf.
-use mathlib.Core.Bool.{true, false}
+-- The faults of an access.
 use Prim.Native.Nat.{ℕ, _/_}
 use Rattle.exceptions.specs.declared.Exception.{Exception}
-use Rattle.rules.specs.declared.Kind.the-variants.{Load}
-use Rattle.rules.specs.declared.Need.{Need}
 use Rattle.rules.specs.Kind.{by}
 use Rattle.access.specs.declared.Access.{Access}
 use Rattle.access.specs.declared.Guest.{Guest}
@@ -31,15 +28,3 @@ guestPageFault a guest = raised a (by (a .kind) 20 21 23) (guest .0 / 4) 0
 -- A guest entry's: "raised as a load guest-page fault, 21, with instruction word 00003000 hex"
 abbrev pub entryFault : Access → Guest → Exception
 entryFault a guest = raised a 21 (guest .0 / 4) 0x3000
-
--- At the first stage: the access's own kind and mode, and the SUM and MXR that count there.
-abbrev pub firstNeed : Access → Need
-firstNeed a = record { kind = a .kind; user = a .user; sum = a .sum; mxr = a .mxr }
-
--- "Second stage: always U=1; MXR is mstatus's only."
-abbrev pub secondNeed : Access → Need
-secondNeed a = record { kind = a .kind; user = true; sum = false; mxr = a .mmxr }
-
--- "The hart's reads of guest entries go through the second stage as reads, need R, and MXR doesn't help."
-abbrev pub entryNeed : Need
-entryNeed = record { kind = Load; user = true; sum = false; mxr = false }

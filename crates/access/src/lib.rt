@@ -1,7 +1,8 @@
 // An access: what it asks of each stage, and its faults.
 ghost use mathlib.Core.Path.{_≡_};
 ghost use Rattle.rules.specs.Kind.{by};
-ghost use Rattle.access.specs.Faults.{raised, misalignment, accessFault, pageFault, guestPageFault, entryFault, firstNeed, secondNeed, entryNeed};
+ghost use Rattle.access.specs.Needs.{firstNeed, secondNeed, entryNeed};
+ghost use Rattle.access.specs.Faults.{raised, misalignment, accessFault, pageFault, guestPageFault, entryFault};
 use exceptions::Exception;
 use rules::Kind;
 use rules::Need;

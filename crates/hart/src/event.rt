@@ -36,9 +36,9 @@ impl Hart {
         ensures { λ r. ⌜ r ≡ trapped self t ⌝ }
     {
         let cause = t.cause;
-        let next = self.deliver(t);
+        let taken = self.deliver(t);
         Step {
-            hart: next,
+            hart: taken,
             outcome: Outcome::Trapped(cause),
         }
     }

@@ -5,7 +5,6 @@ use Prim.Native.Nat.{ℕ, suc, _+_, _*_, _<_, _≤_}
 use native.Mathlib.Omega.{arith}
 use lib.ListN.{length, getD, take, drop, set, drop-of-length-le}
 use lib.Seq.{drop-cons, sets, sets-eq}
-use Rattle.bits.specs.Field.{pick}
 use Rattle.stages.specs.declared.Read.{Read}
 use Rattle.stages.specs.Tree.{item}
 use Rattle.stages.specs.Stages.{machine}
@@ -43,9 +42,9 @@ reads-written rs out n e =
 
 -- the answer's words and the count, written before what follows
 pub answer-written : (a : Answer) (count : ℕ) (out : List ℕ) → 7 ≤ length out → set (sets out 0 (answerWords a)) 6 count ≡ answerWords a ++ (count ∷ drop 7 out)
-answer-written (Answer.Address m) count out h = sets-eq (0 ∷ m .0 ∷ 0 ∷ 0 ∷ 0 ∷ 0 ∷ count ∷ []) out 0 h
-answer-written (Answer.Refused number) count out h = sets-eq (1 ∷ number ∷ 0 ∷ 0 ∷ 0 ∷ 0 ∷ count ∷ []) out 0 h
-answer-written (Answer.Fault f) count out h = sets-eq (2 ∷ f .cause ∷ f .value ∷ f .second ∷ f .word ∷ pick (f .flag) 1 0 ∷ count ∷ []) out 0 h
+answer-written (Answer.Address m) count out h = sets-eq (answerWords (Answer.Address m) ++ (count ∷ [])) out 0 h
+answer-written (Answer.Refused number) count out h = sets-eq (answerWords (Answer.Refused number) ++ (count ∷ [])) out 0 h
+answer-written (Answer.Fault f) count out h = sets-eq (answerWords (Answer.Fault f) ++ (count ∷ [])) out 0 h
 
 -- these seven, and the list after them
 pub translation-written : (a : Answer) (count : ℕ) (rest list : List ℕ) → take 7 (answerWords a ++ (count ∷ rest)) ++ list ≡ answerWords a ++ (count ∷ list)

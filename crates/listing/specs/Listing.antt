@@ -6,11 +6,11 @@ use Rattle.stages.specs.declared.Read.{Read}
 use Rattle.translate.specs.declared.Answer.{Answer}
 use Rattle.translate.specs.declared.Translated.{Translated}
 
--- A translation's answer, 6 words: 0 an address; 1 a refusal number; 2 a fault's cause, value, second value, word and flag.
+-- A translation's answer, 6 words: 0 an address; 1 a fault's cause, value, second value, word and flag; 2 a refusal number.
 abbrev pub answerWords : Answer → List ℕ
 answerWords (Answer.Address m) = 0 ∷ m .0 ∷ 0 ∷ 0 ∷ 0 ∷ 0 ∷ []
-answerWords (Answer.Refused number) = 1 ∷ number ∷ 0 ∷ 0 ∷ 0 ∷ 0 ∷ []
-answerWords (Answer.Fault f) = 2 ∷ f .cause ∷ f .value ∷ f .second ∷ f .word ∷ pick (f .flag) 1 0 ∷ []
+answerWords (Answer.Refused number) = 2 ∷ number ∷ 0 ∷ 0 ∷ 0 ∷ 0 ∷ []
+answerWords (Answer.Fault f) = 1 ∷ f .cause ∷ f .value ∷ f .second ∷ f .word ∷ pick (f .flag) 1 0 ∷ []
 
 -- The list's places, 4 words each: stage, level, machine address and value.
 abbrev pub readWords : List Read → List ℕ

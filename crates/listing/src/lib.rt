@@ -27,9 +27,9 @@ fn answer_words(a: Answer) -> [u64; 6]
 {
     match a {
         Answer::Address(m) => [0, m.0, 0, 0, 0, 0],
-        Answer::Refused(number) => [1, number, 0, 0, 0, 0],
+        Answer::Refused(number) => [2, number, 0, 0, 0, 0],
         Answer::Fault(f) => [
-            2,
+            1,
             f.cause,
             f.value,
             f.second,

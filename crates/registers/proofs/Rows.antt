@@ -5,7 +5,7 @@ use mathlib.Core.List.{[], _∷_}
 use mathlib.Core.Logic.{_↔_}
 use Prim.Native.Nat.{ℕ, suc, _+_, _^_, _<_}
 use lib.Dec.{eqb, ltb}
-use Rattle.bits.specs.Field.{get, put}
+use Rattle.bits.specs.Field.{pick, get, put}
 use Rattle.bits.specs.Every.{every}
 use Rattle.bits.proofs.Every.{every-any}
 use Rattle.bits.proofs.Tests.{fits}
@@ -53,7 +53,12 @@ pub numbered : every (λ i (r : ℕ × ℕ). eqb (at (r .0) .number) (r .1)) 0 (
 unfolding every
 numbered = refl
 
--- a reset hart's registers pass check 2
+-- a reset hart's registers hold what a write of 0 leaves, over what reads fixed; nothing is kept at sstatus's place
+pub initial-stored : every (λ i x. eqb x (pick (eqb i sstatus) 0 (stored (at i .rule) (at i .rule .fixed) 0))) 0 initial ≡ true
+unfolding every stored get put
+initial-stored = refl
+
+-- they pass check 2
 pub initial-passes : registersPass initial ≡ true
 unfolding registersPass every legal get put
 initial-passes = refl

@@ -17,7 +17,8 @@ use Rattle.rules.specs.Entry.{judged}
 use Rattle.access.specs.declared.Access.{Access}
 use Rattle.access.specs.declared.Guest.{Guest}
 use Rattle.access.specs.declared.Machine.{Machine}
-use Rattle.access.specs.Faults.{guestPageFault, secondNeed}
+use Rattle.access.specs.Needs.{secondNeed}
+use Rattle.access.specs.Faults.{guestPageFault}
 use Rattle.stages.specs.Tree.{Walk, done, ask, bind, item, listed, found, run}
 use Rattle.stages.specs.Stages.{Outcome, yields, faults, Translation, _then_, follow, inspect, down, begin, translation, second-of, first-of, last, final, walkOf}
 

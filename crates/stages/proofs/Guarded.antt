@@ -20,7 +20,8 @@ use Rattle.rules.proofs.Verdicts.{is-pointer, is-leaf, leaf-right}
 use Rattle.access.specs.declared.Access.{Access}
 use Rattle.access.specs.declared.Guest.{Guest}
 use Rattle.access.specs.declared.Machine.{Machine}
-use Rattle.access.specs.Faults.{accessFault, entryFault, guestPageFault, firstNeed, secondNeed, entryNeed}
+use Rattle.access.specs.Needs.{firstNeed, secondNeed, entryNeed}
+use Rattle.access.specs.Faults.{accessFault, entryFault, guestPageFault}
 use Rattle.stages.specs.declared.Read.{Read}
 use Rattle.stages.specs.Tree.{Walk, done, ask, bind, item, Ran, listed, found, run}
 use Rattle.stages.specs.Stages.{Outcome, yields, faults, onward, _then_, Translation, slot, follow, inspect, down, begin, translation, guest, machine, second-of, first-of, last, final, walkOf}

@@ -16,7 +16,8 @@ use Rattle.rules.specs.Entry.{judged}
 use Rattle.access.specs.declared.Access.{Access}
 use Rattle.access.specs.declared.Guest.{Guest}
 use Rattle.access.specs.declared.Machine.{Machine}
-use Rattle.access.specs.Faults.{accessFault, pageFault, guestPageFault, entryFault, secondNeed, entryNeed}
+use Rattle.access.specs.Needs.{secondNeed, entryNeed}
+use Rattle.access.specs.Faults.{accessFault, pageFault, guestPageFault, entryFault}
 use Rattle.stages.specs.Tree.{Walk, done, ask, bind, item, listed, found, run}
 use Rattle.stages.specs.Stages.{Outcome, yields, faults, _then_, Translation, slot, follow, inspect, down, begin, translation, guest, second-of, first-of, last, final, walkOf}
 use Rattle.stages.proofs.Offsets.{never}

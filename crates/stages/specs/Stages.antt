@@ -14,7 +14,8 @@ use Rattle.access.specs.declared.Access.{Access}
 use Rattle.access.specs.declared.Guest.{Guest}
 use Rattle.access.specs.declared.Machine.{Machine}
 use Rattle.access.specs.declared.Root.{Root}
-use Rattle.access.specs.Faults.{accessFault, pageFault, guestPageFault, entryFault, firstNeed, secondNeed, entryNeed}
+use Rattle.access.specs.Needs.{firstNeed, secondNeed, entryNeed}
+use Rattle.access.specs.Faults.{accessFault, pageFault, guestPageFault, entryFault}
 use Rattle.stages.specs.Tree.{Walk, done, ask, bind}
 
 abbrev pub guest : ℕ → Guest

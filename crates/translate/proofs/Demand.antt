@@ -15,7 +15,8 @@ use Rattle.image.specs.Image.{unfit}
 use Rattle.rules.specs.declared.Kind.{Kind}
 use Rattle.access.specs.declared.Access.{Access}
 use Rattle.access.specs.declared.Machine.{Machine}
-use Rattle.access.specs.Faults.{misalignment, secondNeed, entryNeed}
+use Rattle.access.specs.Needs.{secondNeed, entryNeed}
+use Rattle.access.specs.Faults.{misalignment}
 use Rattle.stages.specs.declared.Read.{Read}
 use Rattle.stages.specs.Tree.{Walk, Ran, run}
 use Rattle.stages.specs.Stages.{Outcome, yields, faults, look, walkOf}

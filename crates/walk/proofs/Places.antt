@@ -10,7 +10,8 @@ use Rattle.rules.proofs.Indices.{below-root}
 use Rattle.access.specs.declared.Access.{Access}
 use Rattle.access.specs.declared.Guest.{Guest}
 use Rattle.access.specs.declared.Machine.{Machine}
-use Rattle.access.specs.Faults.{pageFault, entryFault, entryNeed}
+use Rattle.access.specs.Needs.{entryNeed}
+use Rattle.access.specs.Faults.{pageFault, entryFault}
 use Rattle.walk.specs.declared.Next.the-variants.{Look}
 use Rattle.walk.specs.declared.Place.{Place}
 use Rattle.stages.specs.Tree.{done, bind}

@@ -9,7 +9,8 @@ use Rattle.rules.specs.Entry.{judged}
 use Rattle.access.specs.declared.Access.{Access}
 use Rattle.access.specs.declared.Guest.{Guest}
 use Rattle.access.specs.declared.Machine.{Machine}
-use Rattle.access.specs.Faults.{accessFault, guestPageFault, entryFault, firstNeed, secondNeed, entryNeed}
+use Rattle.access.specs.Needs.{firstNeed, secondNeed, entryNeed}
+use Rattle.access.specs.Faults.{accessFault, guestPageFault, entryFault}
 use Rattle.walk.specs.declared.Next.{Next}
 use Rattle.walk.specs.declared.Next.the-variants.{Look, Ended}
 use Rattle.walk.specs.declared.Place.{Place}

@@ -4,7 +4,7 @@ ghost use mathlib.Core.Bool.{true};
 ghost use Prim.Native.Nat.{_≤_, _<_};
 ghost use lib.ListN.{length};
 ghost use Rattle.rules.specs.Entry.{judged};
-ghost use Rattle.access.specs.Faults.{firstNeed};
+ghost use Rattle.access.specs.Needs.{firstNeed};
 ghost use Rattle.stages.specs.Tree.{run};
 ghost use Rattle.stages.specs.Stages.{look, walkOf, onward, last};
 ghost use Rattle.walk.specs.Walked.{walked, reached};

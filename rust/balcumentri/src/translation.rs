@@ -84,14 +84,14 @@ impl Translation {
         let words = &self.0;
         match words.kind {
             0 => Answer::Address(words.number),
-            1 => Answer::Refused(words.number),
-            _ => Answer::Fault(Fault {
+            1 => Answer::Fault(Fault {
                 cause: words.number,
                 value: words.value,
                 second: words.second,
                 word: words.word,
                 flag: words.flag == 1,
             }),
+            _ => Answer::Refused(words.number),
         }
     }
 

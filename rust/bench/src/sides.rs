@@ -117,14 +117,14 @@ fn words_of(translation: &plain::Translation) -> TranslationWords {
     let mut words = [0; 67];
     let start = match translation.answer {
         Answer::Address(address) => [0, address, 0, 0, 0, 0],
-        Answer::Refused(number) => [1, number, 0, 0, 0, 0],
+        Answer::Refused(number) => [2, number, 0, 0, 0, 0],
         Answer::Fault(Fault {
             cause,
             value,
             second,
             word,
             flag,
-        }) => [2, cause, value, second, word, flag.into()],
+        }) => [1, cause, value, second, word, flag.into()],
     };
     words[..6].copy_from_slice(&start);
     words[6] = translation.count as u64;
