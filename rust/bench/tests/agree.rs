@@ -101,7 +101,7 @@ fn every_bit_of_every_word_of_a_hart() {
             call::translate(&call::words(&hart), image, load, &mut words);
             let plain = checked(&hart, image, load);
             let is_refused = plain.answer == Answer::Refused(2);
-            assert_eq!(is_refused, words[..2] == [1, 2], "{hart:x?}");
+            assert_eq!(is_refused, words[..2] == [2, 2], "{hart:x?}");
             if is_refused {
                 refused += 1;
             } else {
