@@ -12,7 +12,7 @@ use Rattle.registers.specs.Places.{mstatus}
 use Rattle.registers.specs.Rules.{legal, stored}
 use Rattle.table.specs.Table.{firstAt}
 use Rattle.hart.specs.declared.state.Hart.{Hart}
-use Rattle.hart.specs.declared.event.Outcome as event
+use Rattle.hart.specs.declared.event.Outcome.{Outcome}
 use Rattle.hart.specs.declared.event.Outcome.the-variants.{Done, Trapped, Refused}
 use Rattle.hart.specs.declared.access.Accessed.{Accessed}
 use Rattle.registers.specs.File.{_↢_, _with_, registersPass}
@@ -28,7 +28,7 @@ use Rattle.rules.specs.Entry.{malformed, badPointer, badLeaf, faulty, judged}
 use Rattle.access.specs.declared.Machine.{Machine}
 use Rattle.stages.specs.declared.Read.{Read}
 use Rattle.stages.specs.Tree.{Ran, bind, run}
-use Rattle.stages.specs.Stages.{Outcome, yields, faults, follow, inspect, down, begin, final, walkOf}
+use Rattle.stages.specs.Stages.{Result, yields, faults, follow, inspect, down, begin, final, walkOf}
 
 -- what a replay answers, and what it should
 pub record Replay : Type 0 where
@@ -46,7 +46,7 @@ all-ones number = read (write (reset 0 3 0) number top .hart) number .value
 abbrev cause : Accessed → ℕ
 cause a = of (a .outcome)
   where
-    of : event.Outcome → ℕ
+    of : Outcome → ℕ
     of Done = 0
     of (Trapped c) = c
     of (Refused n) = 0
@@ -56,7 +56,7 @@ abbrev stays : Hart
 stays = record { v = 0; privilege = 3; pc = 0; regs = reset 0 3 0 .regs with (mstatus ↢ (reg (reset 0 3 0) mstatus after (MPP := 3 ∷ MPV := 1 ∷ [])) ∷ []) }
 
 -- a load of 8 with V=1, vsatp Bare, hgatp in Sv39x4 with root PPN 80004, over an image of zero entries everywhere
-abbrev probe : ℕ → Ran (Outcome Machine)
+abbrev probe : ℕ → Ran (Result Machine)
 probe guest =
     run (λ m. Value 0) (walkOf 0 0 (record {
       kind = Load;
@@ -75,7 +75,7 @@ abbrev first-read : List Read → ℕ
 first-read [] = 0
 first-read (x ∷ xs) = x .address .0
 
-abbrev second-value : Outcome Machine → ℕ
+abbrev second-value : Result Machine → ℕ
 second-value (yields m) = 0
 second-value (faults f) = f .second
 

@@ -5,8 +5,8 @@ use lib.Dec.{eqb}
 use Rattle.bits.specs.declared.Field.{Field}
 use Rattle.bits.specs.Field.{span, get, has, pick}
 use Rattle.rules.specs.declared.Need.{Need}
-use Rattle.rules.specs.declared.Verdict.{Verdict}
-use Rattle.rules.specs.declared.Verdict.the-variants.{Pointer, Leaf, Bad}
+use Rattle.rules.specs.declared.Judgement.{Judgement}
+use Rattle.rules.specs.declared.Judgement.the-variants.{Pointer, Leaf, Bad}
 use Rattle.rules.specs.Kind.{by}
 
 -- the bits of an entry
@@ -44,8 +44,8 @@ abbrev pub pointer : ℕ → Bool
 pointer e = not (has R e || has X e)
 
 -- "user mode needs U=1; supervisor on a U=1 page may not fetch, and needs SUM for data"
-abbrev pub reached : Need → ℕ → Bool
-reached n e = pick (n .user) (has U e) (not (has U e) || by (n .kind) false (n .sum) (n .sum))
+abbrev pub admitted : Need → ℕ → Bool
+admitted n e = pick (n .user) (has U e) (not (has U e) || by (n .kind) false (n .sum) (n .sum))
 
 -- "Loads need R, or X with MXR; stores need W, fetches X."
 abbrev pub granted : Need → ℕ → Bool
@@ -65,7 +65,7 @@ badLeaf n level e =
     not (eqb (get (lowPPN level) e) 0)
     || not (has A e)
     || by (n .kind) false false (not (has D e))
-    || not (reached n e && granted n e)
+    || not (admitted n e && granted n e)
 
 -- "Both stages fault on": an entry e of a level
 unfoldable pub faulty : Need → ℕ → ℕ → Bool
@@ -81,6 +81,6 @@ offset level = record { low = 0; width = 12 + 9 * level }
 
 -- A faulty entry, a pointer to the next table, or a leaf that yields "that PPN times 4096, with the low 12 + 9 times the
 -- level bits taken from its address" (these are zero in a leaf's PPN times 4096).
-unfoldable pub judged : Need → ℕ → ℕ → ℕ → Verdict
+unfoldable pub judged : Need → ℕ → ℕ → ℕ → Judgement
 judged n level address e =
     pick (faulty n level e) Bad (pick (pointer e) (Pointer (target e)) (Leaf (target e + get (offset level) address)))

@@ -4,8 +4,8 @@ ghost use Prim.Native.Nat.{_+_, _-_, _^_, _<_, _≤_};
 ghost use mathlib.Core.Bool.{_||_};
 ghost use Rattle.bits.specs.Field.{get, pick};
 ghost use Rattle.rules.specs.Kind.{by};
-ghost use Rattle.rules.specs.declared.Verdict.the-variants as Verdict;
-ghost use Rattle.rules.specs.Entry.{pointer, reached, granted, malformed, badPointer, badLeaf, target, offset, judged};
+ghost use Rattle.rules.specs.declared.Judgement.the-variants as Judgement;
+ghost use Rattle.rules.specs.Entry.{pointer, admitted, granted, malformed, badPointer, badLeaf, target, offset, judged};
 ghost use Rattle.rules.specs.Address.{Stage, wellFormed, indexBits, index};
 use bits::Field;
 use bits::has;
@@ -27,7 +27,7 @@ pub struct Need {
 }
 
 // What an entry is at its level.
-pub enum Verdict {
+pub enum Judgement {
     Pointer(u64),
     Leaf(u64),
     Bad,
@@ -84,19 +84,19 @@ fn leads_to(e: u64) -> u64
 }
 
 // What a pointer is at its level.
-fn pointer(level: u64, e: u64) -> Verdict
-    ensures { λ r. ⌜ r ≡ pick (malformed e || badPointer level e) Verdict.Bad (Verdict.Pointer (target e)) ⌝ }
+fn pointer(level: u64, e: u64) -> Judgement
+    ensures { λ r. ⌜ r ≡ pick (malformed e || badPointer level e) Judgement.Bad (Judgement.Pointer (target e)) ⌝ }
 {
     if is_malformed(e) | (has(A, e) | has(D, e) | has(U, e) | (level == 0)) {
-        return Verdict::Bad;
+        return Judgement::Bad;
     }
-    Verdict::Pointer(leads_to(e))
+    Judgement::Pointer(leads_to(e))
 }
 
 impl Need {
     // U and SUM.
-    fn reaches(self, e: u64) -> bool
-        ensures { λ r. ⌜ r ≡ reached self e ⌝ }
+    fn admits(self, e: u64) -> bool
+        ensures { λ r. ⌜ r ≡ admitted self e ⌝ }
     {
         let kind = self.kind;
         let sum = self.sum;
@@ -129,26 +129,26 @@ impl Need {
         (low.get(e) != 0)
             | !has(A, e)
             | kind.test(false, false, !has(D, e))
-            | !(self.reaches(e) & self.grants(e))
+            | !(self.admits(e) & self.grants(e))
     }
 
     // What a leaf yields for an address.
-    fn leaf(self, level: u64, address: u64, e: u64) -> Verdict
+    fn leaf(self, level: u64, address: u64, e: u64) -> Judgement
         requires { ⌜ level < 5 ⌝ }
-        ensures { λ r. ⌜ r ≡ pick (malformed e || badLeaf self level e) Verdict.Bad (Verdict.Leaf (target e + get (offset level) address)) ⌝ }
+        ensures { λ r. ⌜ r ≡ pick (malformed e || badLeaf self level e) Judgement.Bad (Judgement.Leaf (target e + get (offset level) address)) ⌝ }
     {
         if is_malformed(e) | self.rejects(level, e) {
-            return Verdict::Bad;
+            return Judgement::Bad;
         }
         let offset = Field {
             low: 0,
             width: 12 + 9 * level,
         };
-        Verdict::Leaf(leads_to(e) + offset.get(address))
+        Judgement::Leaf(leads_to(e) + offset.get(address))
     }
 
     // What an entry is at its level, and where it leads an address.
-    pub fn judge(self, level: u64, address: u64, e: u64) -> Verdict
+    pub fn judge(self, level: u64, address: u64, e: u64) -> Judgement
         requires { ⌜ level < 5 ⌝ }
         ensures { λ r. ⌜ r ≡ judged self level address e ⌝ }
     {

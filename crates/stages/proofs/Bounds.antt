@@ -10,8 +10,8 @@ use Rattle.image.specs.declared.Entry.{Entry}
 use Rattle.image.specs.declared.Entry.the-variants.{Value, Outside}
 use Rattle.exceptions.specs.declared.Exception.{Exception}
 use Rattle.rules.specs.declared.Need.{Need}
-use Rattle.rules.specs.declared.Verdict.{Verdict}
-use Rattle.rules.specs.declared.Verdict.the-variants.{Pointer, Leaf, Bad}
+use Rattle.rules.specs.declared.Judgement.{Judgement}
+use Rattle.rules.specs.declared.Judgement.the-variants.{Pointer, Leaf, Bad}
 use Rattle.rules.specs.Address.{wellFormed}
 use Rattle.rules.specs.Entry.{judged}
 use Rattle.access.specs.declared.Access.{Access}
@@ -20,7 +20,7 @@ use Rattle.access.specs.declared.Machine.{Machine}
 use Rattle.access.specs.Needs.{secondNeed}
 use Rattle.access.specs.Faults.{guestPageFault}
 use Rattle.stages.specs.Tree.{Walk, done, ask, bind, item, listed, found, run}
-use Rattle.stages.specs.Stages.{Outcome, yields, faults, Translation, _then_, follow, inspect, down, begin, translation, second-of, first-of, last, final, walkOf}
+use Rattle.stages.specs.Stages.{Result, yields, faults, Translation, _then_, follow, inspect, down, begin, translation, second-of, first-of, last, final, walkOf}
 
 -- a walk asks at most n times on any way
 abbrev pub Within : {A : Type 0} → Walk A → ℕ → Type 0
@@ -49,7 +49,7 @@ within-more (done a) n j h = tt
 within-more (ask s l m outside k) zero j h = absurd h
 within-more (ask s l m outside k) (suc n) j h = rw suc-add (rw suc-add at (within-more outside (suc n) j (h .0)), λ v. within-more (k v) n j (h .1 v))
 
-pub within-then : {A B : Type 0} (w : Walk (Outcome A)) (f : A → Walk (Outcome B)) (n j : ℕ) → Within w n → ((a : A) → Within (f a) j) → Within (w then f) (n + j)
+pub within-then : {A B : Type 0} (w : Walk (Result A)) (f : A → Walk (Result B)) (n j : ℕ) → Within w n → ((a : A) → Within (f a) j) → Within (w then f) (n + j)
 unfolding bind
 within-then (done (yields a)) f n j h g = rw (add-comm n j) (within-more (f a) j n (g a))
 within-then (done (faults x)) f n j h g = tt
@@ -59,13 +59,13 @@ within-then (ask s l m outside k) f (suc n) j h g = rw suc-add (rw suc-add at (w
 -- ---- a stage of either kind, whose entries' own addresses take at most k reads each
 
 module _ {A : Type 0} (t : Translation A) (k : ℕ) (through : (x : ℕ) → Within (t .through x) k) where
-  within-follow : (d : Verdict) (next : ℕ → Walk (Outcome A)) (n : ℕ) → ((x : ℕ) → Within (next x) n) → Within (follow t d next) n
+  within-follow : (d : Judgement) (next : ℕ → Walk (Result A)) (n : ℕ) → ((x : ℕ) → Within (next x) n) → Within (follow t d next) n
   unfolding follow
   within-follow Bad next n h = tt
   within-follow (Leaf x) next n h = tt
   within-follow (Pointer x) next n h = h x
 
-  within-visit : (level x : ℕ) (next : ℕ → Walk (Outcome A)) (n : ℕ) → ((x : ℕ) → Within (next x) n) → Within (t .through x then inspect t level next) (k + suc n)
+  within-visit : (level x : ℕ) (next : ℕ → Walk (Result A)) (n : ℕ) → ((x : ℕ) → Within (next x) n) → Within (t .through x then inspect t level next) (k + suc n)
   unfolding inspect
   within-visit level x next n h =
       within-then (t .through x) (inspect t level next) k (suc n) (through x)

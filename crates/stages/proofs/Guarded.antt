@@ -12,11 +12,11 @@ use Rattle.image.specs.declared.Entry.the-variants.{Value, Outside}
 use Rattle.image.specs.Image.{within}
 use Rattle.exceptions.specs.declared.Exception.{Exception}
 use Rattle.rules.specs.declared.Need.{Need}
-use Rattle.rules.specs.declared.Verdict.{Verdict}
-use Rattle.rules.specs.declared.Verdict.the-variants.{Pointer, Leaf, Bad}
+use Rattle.rules.specs.declared.Judgement.{Judgement}
+use Rattle.rules.specs.declared.Judgement.the-variants.{Pointer, Leaf, Bad}
 use Rattle.rules.specs.Address.{wellFormed, first, second}
-use Rattle.rules.specs.Entry.{R, X, pointer, reached, granted, target, judged}
-use Rattle.rules.proofs.Verdicts.{is-pointer, is-leaf, leaf-right}
+use Rattle.rules.specs.Entry.{R, X, pointer, admitted, granted, target, judged}
+use Rattle.rules.proofs.Judgements.{is-pointer, is-leaf, leaf-right}
 use Rattle.access.specs.declared.Access.{Access}
 use Rattle.access.specs.declared.Guest.{Guest}
 use Rattle.access.specs.declared.Machine.{Machine}
@@ -24,7 +24,7 @@ use Rattle.access.specs.Needs.{firstNeed, secondNeed, entryNeed}
 use Rattle.access.specs.Faults.{accessFault, entryFault, guestPageFault}
 use Rattle.stages.specs.declared.Read.{Read}
 use Rattle.stages.specs.Tree.{Walk, done, ask, bind, item, Ran, listed, found, run}
-use Rattle.stages.specs.Stages.{Outcome, yields, faults, onward, _then_, Translation, slot, follow, inspect, down, begin, translation, guest, machine, second-of, first-of, last, final, walkOf}
+use Rattle.stages.specs.Stages.{Result, yields, faults, onward, _then_, Translation, slot, follow, inspect, down, begin, translation, guest, machine, second-of, first-of, last, final, walkOf}
 use Rattle.stages.specs.Through.{secondItem, Descent, at-leaf, by-pointer, LetThrough, EndsThrough}
 use Rattle.stages.proofs.Trees.{begin-at}
 use Rattle.stages.proofs.Runs.{run-bind}
@@ -50,17 +50,17 @@ module _ (look : Machine → Entry) (a : Access) (n : Need) (f : Exception) (g :
   deeper zero table e xs m p u = absurd u
   deeper (suc l) table e xs m p u = record { leaf = u .leaf; items = by-pointer l table e xs (u .leaf) p (u .items); yielded = u .yielded }
 
-  visited : (level table : ℕ) (m : Machine) (next : ℕ → Walk (Outcome Machine))
+  visited : (level table : ℕ) (m : Machine) (next : ℕ → Walk (Result Machine))
       → ((x : ℕ) → run look (next x) .end ≡ yields m → Under level x (run look (next x) .reads) m)
       → run look (inspect t level next (machine (slot t level table))) .end ≡ yields m
       → Found level table (run look (inspect t level next (machine (slot t level table))) .reads) m
   unfolding run inspect follow
   visited level table m next sub h = go (look (machine (slot t level table))) h
     where
-      after : ℕ → Verdict → Ran (Outcome Machine)
+      after : ℕ → Judgement → Ran (Result Machine)
       after e d = listed (secondItem (a .second) (g .0) level table e) (run look (follow t d next))
 
-      judge : (e : ℕ) (d : Verdict) → judged n level (g .0) e ≡ d → after e d .end ≡ yields m → Found level table (after e d .reads) m
+      judge : (e : ℕ) (d : Judgement) → judged n level (g .0) e ≡ d → after e d .end ≡ yields m → Found level table (after e d .reads) m
       judge e Bad j q = never f m q
       judge e (Leaf x) j q =
           record { leaf = secondItem (a .second) (g .0) level table e; items = at-leaf level table e (is-leaf n level (g .0) e x j .leaf); yielded = cc }
@@ -90,8 +90,8 @@ module _ (look : Machine → Entry) (a : Access) (n : Need) (f : Exception) (g :
         leaf = leaf;
         items = k .items;
         passed = i .good;
-        user = rw u at (and-left (reached n (leaf .value)) (granted n (leaf .value)) r);
-        right = and-right (reached n (leaf .value)) (granted n (leaf .value)) r;
+        user = rw u at (and-left (admitted n (leaf .value)) (granted n (leaf .value)) r);
+        right = and-right (admitted n (leaf .value)) (granted n (leaf .value)) r;
         page = record { from = omega (arith, i .to); to = omega (arith, i .to, room (leaf .level) (g .0) size small aligned) };
       }
 
@@ -102,7 +102,7 @@ module _ (look : Machine → Entry) (a : Access) (n : Need) (f : Exception) (g :
   let-through p u k small aligned m h =
       rw (begin-at t (a .second .levels) p) (go (wellFormed second (a .second .levels) (g .0)) (rw (begin-at t (a .second .levels) p) at h))
     where
-      root : Walk (Outcome Machine)
+      root : Walk (Result Machine)
       root = down t (a .second .levels - 1) (a .second .ppn * 4096)
 
       go : (b : Bool) → run look (pick b root (done (faults f))) .end ≡ yields m → LetThrough (a .second) n (run look (pick b root (done (faults f))) .reads) m (2 ^ k)
@@ -139,7 +139,7 @@ module _ (a : Access) (n : Need) (f : Exception) (g : Guest) where
   abbrev u : Translation Machine
   u = second-of a n f g
 
-  only-follow : (d : Verdict) (next : ℕ → Walk (Outcome Machine)) → ((x : ℕ) → Only 2 (next x)) → Only 2 (follow u d next)
+  only-follow : (d : Judgement) (next : ℕ → Walk (Result Machine)) → ((x : ℕ) → Only 2 (next x)) → Only 2 (follow u d next)
   unfolding follow
   only-follow Bad next h = tt
   only-follow (Leaf x) next h = tt
@@ -173,12 +173,12 @@ guarded-more a ys (plain ws h) k = plain (ws ++ ys) (all-append 2 ws ys h k)
 guarded-more a ys (before ws x xs h l r) k = rw (append-assoc ws (x ∷ xs) ys) (before ws x (xs ++ ys) h l (guarded-more a ys r k))
 
 module _ (look : Machine → Entry) (a : Access) (on : 0 < a .second .levels) where
-  guarded-visit : (level x : ℕ) → x % 8 ≡ 0 → (next : ℕ → Walk (Outcome Guest)) → ((y : ℕ) → y % 8 ≡ 0 → Guarded a (run look (next y) .reads))
+  guarded-visit : (level x : ℕ) → x % 8 ≡ 0 → (next : ℕ → Walk (Result Guest)) → ((y : ℕ) → y % 8 ≡ 0 → Guarded a (run look (next y) .reads))
       → Guarded a (run look (first-of a .through x then inspect (first-of a) level next) .reads)
   unfolding run inspect follow
   guarded-visit level x aligned next sub = rw (run-bind look w (onward (inspect (first-of a) level next))) (go (run look w .end) refl)
     where
-      w : Walk (Outcome Machine)
+      w : Walk (Result Machine)
       w = translation (second-of a entryNeed (entryFault a (guest x)) (guest x))
 
       ws : List Read
@@ -190,7 +190,7 @@ module _ (look : Machine → Entry) (a : Access) (on : 0 < a .second .levels) wh
       alone : Guarded a (ws ++ [])
       alone = rw append-nil (plain ws second-only)
 
-      judge : (v : ℕ) (d : Verdict) → judged (firstNeed a) level (a .address) v ≡ d → Guarded a (run look (follow (first-of a) d next) .reads)
+      judge : (v : ℕ) (d : Judgement) → judged (firstNeed a) level (a .address) v ≡ d → Guarded a (run look (follow (first-of a) d next) .reads)
       judge v Bad j = plain [] tt
       judge v (Leaf y) j = plain [] tt
       judge v (Pointer y) j = sub y (omega (arith, is-pointer (firstNeed a) level (a .address) v y j .to))
@@ -200,7 +200,7 @@ module _ (look : Machine → Entry) (a : Access) (on : 0 < a .second .levels) wh
       entry m l Outside = alone
       entry m l (Value v) = before ws (item 1 level m v) _ second-only l (judge v (judged (firstNeed a) level (a .address) v) refl)
 
-      go : (o : Outcome Machine) → run look w .end ≡ o → Guarded a (ws ++ run look (onward (inspect (first-of a) level next) o) .reads)
+      go : (o : Result Machine) → run look w .end ≡ o → Guarded a (ws ++ run look (onward (inspect (first-of a) level next) o) .reads)
       go (faults f) e = alone
       go (yields m) e = entry m (let-through look a entryNeed (entryFault a (guest x)) (guest x) on refl 3 (omega arith) aligned m e) (look m)
 
@@ -221,7 +221,7 @@ module _ (look : Machine → Entry) (a : Access) (on : 0 < a .second .levels) wh
   -- an access of 2 ^ k bytes, aligned
   module _ (base len k : ℕ) (small : k ≤ 12) (aligned : a .address % 2 ^ k ≡ 0) where
     -- the access itself: only second-stage items, and an answer was let through
-    record Final (xs : List Read) (o : Outcome Machine) : Type 0 where
+    record Final (xs : List Read) (o : Result Machine) : Type 0 where
       only : All 2 xs
       through : (m : Machine) → o ≡ yields m → LetThrough (a .second) (secondNeed a) xs m (2 ^ k)
 
@@ -229,7 +229,7 @@ module _ (look : Machine → Entry) (a : Access) (on : 0 < a .second .levels) wh
     unfolding final run last
     final-through g even = rw (run-bind look w (onward (λ m. done (last base len a m)))) (go (run look w .end) refl)
       where
-        w : Walk (Outcome Machine)
+        w : Walk (Result Machine)
         w = translation (second-of a (secondNeed a) (guestPageFault a g) g)
 
         ws : List Read
@@ -239,12 +239,12 @@ module _ (look : Machine → Entry) (a : Access) (on : 0 < a .second .levels) wh
         conclude m l true = rw append-nil (record { only = only-second a (secondNeed a) (guestPageFault a g) g look; through = λ m′ e. let q : m ≡ m′ = cc in rw (← q) l })
         conclude m l false = rw append-nil (record { only = only-second a (secondNeed a) (guestPageFault a g) g look; through = λ m′ e. never (accessFault a) m′ e })
 
-        go : (o : Outcome Machine) → run look w .end ≡ o → Final (ws ++ run look (onward (λ m. done (last base len a m)) o) .reads) (run look (onward (λ m. done (last base len a m)) o) .end)
+        go : (o : Result Machine) → run look w .end ≡ o → Final (ws ++ run look (onward (λ m. done (last base len a m)) o) .reads) (run look (onward (λ m. done (last base len a m)) o) .end)
         go (faults f) e = rw append-nil (record { only = only-second a (secondNeed a) (guestPageFault a g) g look; through = λ m e. never f m e })
         go (yields m) e = conclude m (let-through look a (secondNeed a) (guestPageFault a g) g on refl k small even m e) (within base len (m .0) (a .width))
 
     -- the whole list, and its end
-    record Whole (xs : List Read) (o : Outcome Machine) : Type 0 where
+    record Whole (xs : List Read) (o : Result Machine) : Type 0 where
       guarded : Guarded a xs
       through : (m : Machine) → o ≡ yields m → EndsThrough (a .second) (secondNeed a) xs m (2 ^ k)
 
@@ -252,13 +252,13 @@ module _ (look : Machine → Entry) (a : Access) (on : 0 < a .second .levels) wh
     unfolding walkOf run
     whole = rw (run-bind look w (onward (final base len a))) (go (run look w .end) refl)
       where
-        w : Walk (Outcome Guest)
+        w : Walk (Result Guest)
         w = translation (first-of a)
 
         ws : List Read
         ws = run look w .reads
 
-        go : (o : Outcome Guest) → run look w .end ≡ o → Whole (ws ++ run look (onward (final base len a) o) .reads) (run look (onward (final base len a) o) .end)
+        go : (o : Result Guest) → run look w .end ≡ o → Whole (ws ++ run look (onward (final base len a) o) .reads) (run look (onward (final base len a) o) .end)
         go (faults f) e = record { guarded = guarded-more a [] (guarded-begin (a .first .levels)) tt; through = λ m e. never f m e }
         go (yields g) e =
             let kept = keeps-low look (first-of a) k small g e in

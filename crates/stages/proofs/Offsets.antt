@@ -11,17 +11,17 @@ use Rattle.bits.proofs.Bools.{clash}
 use Rattle.image.specs.declared.Entry.{Entry}
 use Rattle.image.specs.declared.Entry.the-variants.{Value, Outside}
 use Rattle.exceptions.specs.declared.Exception.{Exception}
-use Rattle.rules.specs.declared.Verdict.{Verdict}
-use Rattle.rules.specs.declared.Verdict.the-variants.{Pointer, Leaf, Bad}
+use Rattle.rules.specs.declared.Judgement.{Judgement}
+use Rattle.rules.specs.declared.Judgement.the-variants.{Pointer, Leaf, Bad}
 use Rattle.rules.specs.Address.{number, wellFormed}
 use Rattle.rules.specs.Entry.{PPN, target, offset, judged}
-use Rattle.rules.proofs.Verdicts.{is-leaf}
+use Rattle.rules.proofs.Judgements.{is-leaf}
 use Rattle.access.specs.declared.Machine.{Machine}
 use Rattle.stages.specs.Tree.{Walk, done, item, listed, found, run}
-use Rattle.stages.specs.Stages.{Outcome, yields, faults, onward, _then_, Translation, slot, follow, inspect, down, begin, translation}
+use Rattle.stages.specs.Stages.{Result, yields, faults, onward, _then_, Translation, slot, follow, inspect, down, begin, translation}
 use Rattle.stages.proofs.Runs.{run-bind}
 
-pub never : {A : Type 0} {P : Type 0} (f : Exception) (x : A) → _≡_ {A = Outcome A} (faults f) (yields x) → P
+pub never : {A : Type 0} {P : Type 0} (f : Exception) (x : A) → _≡_ {A = Result A} (faults f) (yields x) → P
 never f x e = clash (cc)
 
 module _ (level x k : ℕ) where
@@ -56,12 +56,12 @@ pub record Kept {A : Type 0} (t : Translation A) (k : ℕ) (r : A) : Type 0 wher
   pub low : to % 2 ^ k ≡ t .address % 2 ^ k
 
 module _ {A : Type 0} (look : Machine → Entry) (t : Translation A) (k : ℕ) (small : k ≤ 12) (r : A) where
-  visit : (level x : ℕ) (next : ℕ → Walk (Outcome A)) → ((y : ℕ) → run look (next y) .end ≡ yields r → Kept t k r)
+  visit : (level x : ℕ) (next : ℕ → Walk (Result A)) → ((y : ℕ) → run look (next y) .end ≡ yields r → Kept t k r)
       → run look (t .through x then inspect t level next) .end ≡ yields r → Kept t k r
   unfolding run inspect follow
   visit level x next sub h = go (run look (t .through x) .end) (rw (run-bind look (t .through x) (onward (inspect t level next))) at h)
     where
-      judge : (v : ℕ) (d : Verdict) → judged (t .need) level (t .address) v ≡ d → run look (follow t d next) .end ≡ yields r → Kept t k r
+      judge : (v : ℕ) (d : Judgement) → judged (t .need) level (t .address) v ≡ d → run look (follow t d next) .end ≡ yields r → Kept t k r
       judge v Bad j q = never (t .fault) r q
       judge v (Leaf y) j q =
           record { to = y; same = cc; low = ap (λ (z : ℕ). z % 2 ^ k) (is-leaf (t .need) level (t .address) v y j .to) ∙ low-bits level (t .address) k small v }
@@ -72,7 +72,7 @@ module _ {A : Type 0} (look : Machine → Entry) (t : Translation A) (k : ℕ) (
       entry m Outside q = never (t .outside) r q
       entry m (Value v) q = judge v (judged (t .need) level (t .address) v) refl q
 
-      go : (o : Outcome Machine) → run look (onward (inspect t level next) o) .end ≡ yields r → Kept t k r
+      go : (o : Result Machine) → run look (onward (inspect t level next) o) .end ≡ yields r → Kept t k r
       go (faults f) q = never f r q
       go (yields m) q = entry m (look m) q
 

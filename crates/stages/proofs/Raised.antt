@@ -9,8 +9,8 @@ use Rattle.image.specs.declared.Entry.{Entry}
 use Rattle.image.specs.declared.Entry.the-variants.{Value, Outside}
 use Rattle.image.specs.Image.{within}
 use Rattle.rules.specs.declared.Need.{Need}
-use Rattle.rules.specs.declared.Verdict.{Verdict}
-use Rattle.rules.specs.declared.Verdict.the-variants.{Pointer, Leaf, Bad}
+use Rattle.rules.specs.declared.Judgement.{Judgement}
+use Rattle.rules.specs.declared.Judgement.the-variants.{Pointer, Leaf, Bad}
 use Rattle.rules.specs.Address.{wellFormed}
 use Rattle.rules.specs.Entry.{judged}
 use Rattle.access.specs.declared.Access.{Access}
@@ -19,23 +19,23 @@ use Rattle.access.specs.declared.Machine.{Machine}
 use Rattle.access.specs.Needs.{secondNeed, entryNeed}
 use Rattle.access.specs.Faults.{accessFault, pageFault, guestPageFault, entryFault}
 use Rattle.stages.specs.Tree.{Walk, done, ask, bind, item, listed, found, run}
-use Rattle.stages.specs.Stages.{Outcome, yields, faults, _then_, Translation, slot, follow, inspect, down, begin, translation, guest, second-of, first-of, last, final, walkOf}
+use Rattle.stages.specs.Stages.{Result, yields, faults, _then_, Translation, slot, follow, inspect, down, begin, translation, guest, second-of, first-of, last, final, walkOf}
 use Rattle.stages.proofs.Offsets.{never}
 
 module _ (P : Exception → Type 0) where
   -- P holds of every fault that a walk can end with
-  abbrev Raises : {A : Type 0} → Walk (Outcome A) → Type 0
+  abbrev Raises : {A : Type 0} → Walk (Result A) → Type 0
   Raises (done (yields a)) = Unit {0}
   Raises (done (faults f)) = P f
   Raises (ask s l m outside k) = Raises outside × ((v : ℕ) → Raises (k v))
 
-  raises-then : {A B : Type 0} (w : Walk (Outcome A)) (f : A → Walk (Outcome B)) → Raises w → ((a : A) → Raises (f a)) → Raises (w then f)
+  raises-then : {A B : Type 0} (w : Walk (Result A)) (f : A → Walk (Result B)) → Raises w → ((a : A) → Raises (f a)) → Raises (w then f)
   unfolding bind
   raises-then (done (yields a)) f h k = k a
   raises-then (done (faults e)) f h k = h
   raises-then (ask s l m outside next) f h k = (raises-then outside f (h .0) k, λ v. raises-then (next v) f (h .1 v) k)
 
-  raises-run : {A : Type 0} (look : Machine → Entry) (w : Walk (Outcome A)) → Raises w → (f : Exception) → run look w .end ≡ faults f → P f
+  raises-run : {A : Type 0} (look : Machine → Entry) (w : Walk (Result A)) → Raises w → (f : Exception) → run look w .end ≡ faults f → P f
   unfolding run
   raises-run look (done (yields a)) h f e = never f a (sym e)
   raises-run look (done (faults x)) h f e = let q : x ≡ f = cc in subst P q h
@@ -47,11 +47,11 @@ module _ (P : Exception → Type 0) where
       go (Value v) o k q = k v q
 
   module _ {A : Type 0} (t : Translation A) (outside : P (t .outside)) (through : (x : ℕ) → Raises (t .through x)) where
-    raises-visit : P (t .fault) → (level : ℕ) (next : ℕ → Walk (Outcome A)) → ((x : ℕ) → Raises (next x)) → (m : Machine) → Raises (inspect t level next m)
+    raises-visit : P (t .fault) → (level : ℕ) (next : ℕ → Walk (Result A)) → ((x : ℕ) → Raises (next x)) → (m : Machine) → Raises (inspect t level next m)
     unfolding inspect follow
     raises-visit fault level next h m = (outside, λ e. judge (judged (t .need) level (t .address) e))
       where
-        judge : (d : Verdict) → Raises (follow t d next)
+        judge : (d : Judgement) → Raises (follow t d next)
         judge Bad = fault
         judge (Pointer x) = h x
         judge (Leaf x) = tt

@@ -5,10 +5,10 @@ use native.Mathlib.Omega.{arith}
 use Rattle.bits.specs.Field.{pick}
 use Rattle.rules.specs.Address.{wellFormed}
 use Rattle.stages.specs.Tree.{Walk, done, ask, bind}
-use Rattle.stages.specs.Stages.{Outcome, yields, faults, _then_, Translation, down, begin}
+use Rattle.stages.specs.Stages.{Result, yields, faults, _then_, Translation, down, begin}
 
 -- three in turn are grouped either way
-pub then-assoc : {A B C : Type 0} (w : Walk (Outcome A)) (f : A → Walk (Outcome B)) (g : B → Walk (Outcome C)) → w then f then g ≡ w then (λ x. f x then g)
+pub then-assoc : {A B C : Type 0} (w : Walk (Result A)) (f : A → Walk (Result B)) (g : B → Walk (Result C)) → w then f then g ≡ w then (λ x. f x then g)
 unfolding bind
 then-assoc (done (yields x)) f g = refl
 then-assoc (done (faults x)) f g = refl

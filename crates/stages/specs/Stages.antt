@@ -6,8 +6,8 @@ use Rattle.image.specs.declared.Entry.{Entry}
 use Rattle.image.specs.Image.{within, entry}
 use Rattle.exceptions.specs.declared.Exception.{Exception}
 use Rattle.rules.specs.declared.Need.{Need}
-use Rattle.rules.specs.declared.Verdict.{Verdict}
-use Rattle.rules.specs.declared.Verdict.the-variants.{Pointer, Leaf, Bad}
+use Rattle.rules.specs.declared.Judgement.{Judgement}
+use Rattle.rules.specs.declared.Judgement.the-variants.{Pointer, Leaf, Bad}
 use Rattle.rules.specs.Address.{Stage, first, second, number, wellFormed, index}
 use Rattle.rules.specs.Entry.{judged}
 use Rattle.access.specs.declared.Access.{Access}
@@ -29,17 +29,17 @@ abbrev pub look : ℕ → List ℕ → Machine → Entry
 look base bytes m = entry base bytes (m .0)
 
 -- what a stage comes to
-pub data Outcome (A : Type 0) : Type 0 where
-  yields : A → Outcome A
-  faults : Exception → Outcome A
+pub data Result (A : Type 0) : Type 0 where
+  yields : A → Result A
+  faults : Exception → Result A
 
-abbrev pub onward : {A B : Type 0} → (A → Walk (Outcome B)) → Outcome A → Walk (Outcome B)
+abbrev pub onward : {A B : Type 0} → (A → Walk (Result B)) → Result A → Walk (Result B)
 onward f (yields a) = f a
 onward f (faults x) = done (faults x)
 
 -- "Any fault, of either stage, ends the walk and is its answer."
 infixl 20 _then_
-abbrev pub _then_ : {A B : Type 0} → Walk (Outcome A) → (A → Walk (Outcome B)) → Walk (Outcome B)
+abbrev pub _then_ : {A B : Type 0} → Walk (Result A) → (A → Walk (Result B)) → Walk (Result B)
 w then f = bind w (onward f)
 
 -- A stage's translation of an address: what it needs of a leaf, what a fault rule raises and what an entry outside the image
@@ -51,7 +51,7 @@ pub record Translation (A : Type 0) : Type 0 where
   pub need : Need
   pub fault : Exception
   pub outside : Exception
-  pub through : ℕ → Walk (Outcome Machine)
+  pub through : ℕ → Walk (Result Machine)
   pub kind : ℕ → A
 
 -- "The entry is at the table plus 8 times the index."
@@ -60,28 +60,28 @@ slot t level table = table + 8 * index (t .stage) (t .tables .levels) level (t .
 
 -- After the fault rules: "a pointer: the level falls by one, and the table is at the entry's PPN times 4096"; "Any other is a
 -- leaf: the stage yields".
-unfoldable pub follow : {A : Type 0} → Translation A → Verdict → (ℕ → Walk (Outcome A)) → Walk (Outcome A)
+unfoldable pub follow : {A : Type 0} → Translation A → Judgement → (ℕ → Walk (Result A)) → Walk (Result A)
 follow t Bad next = done (faults (t .fault))
 follow t (Pointer table) next = next table
 follow t (Leaf x) next = done (yields (t .kind x))
 
 -- "An entry in the image is read, eight bytes, and listed; then the fault rules above are tried."
-unfoldable pub inspect : {A : Type 0} → Translation A → ℕ → (ℕ → Walk (Outcome A)) → Machine → Walk (Outcome A)
+unfoldable pub inspect : {A : Type 0} → Translation A → ℕ → (ℕ → Walk (Result A)) → Machine → Walk (Result A)
 inspect t level next m =
     ask (number (t .stage)) level m (done (faults (t .outside))) (λ e. follow t (judged (t .need) level (t .address) e) next)
 
 -- from a level down, its table at an address; no pointer leads below level 0
-unfoldable pub down : {A : Type 0} → Translation A → ℕ → ℕ → Walk (Outcome A)
+unfoldable pub down : {A : Type 0} → Translation A → ℕ → ℕ → Walk (Result A)
 down t zero table = t .through (slot t zero table) then inspect t zero (λ x. done (faults (t .fault)))
 down t (suc l) table = t .through (slot t (suc l) table) then inspect t (suc l) (down t l)
 
 -- "A stage that is on begins by testing its address's high bits. It starts at its top level, with the table at its
 -- register's PPN times 4096." With no levels it is Bare and passes the address on.
-unfoldable pub begin : {A : Type 0} → Translation A → ℕ → Walk (Outcome A)
+unfoldable pub begin : {A : Type 0} → Translation A → ℕ → Walk (Result A)
 begin t zero = done (yields (t .kind (t .address)))
 begin t (suc l) = pick (wellFormed (t .stage) (suc l) (t .address)) (down t l (t .tables .ppn * 4096)) (done (faults (t .fault)))
 
-abbrev pub translation : {A : Type 0} → Translation A → Walk (Outcome A)
+abbrev pub translation : {A : Type 0} → Translation A → Walk (Result A)
 translation t = begin t (t .tables .levels)
 
 -- The second stage: its tables' own addresses are machine addresses.
@@ -113,13 +113,13 @@ first-of a =
     }
 
 -- "The last address, if the whole access lies in the image, is the answer", "else 1, 5, 7".
-unfoldable pub last : ℕ → ℕ → Access → Machine → Outcome Machine
+unfoldable pub last : ℕ → ℕ → Access → Machine → Result Machine
 last base len a m = pick (within base len (m .0) (a .width)) (yields m) (faults (accessFault a))
 
 -- "the first stage's result, or the access's address if vsatp is Bare, goes through the second stage, if on, for the access itself"
-unfoldable pub final : ℕ → ℕ → Access → Guest → Walk (Outcome Machine)
+unfoldable pub final : ℕ → ℕ → Access → Guest → Walk (Result Machine)
 final base len a g = translation (second-of a (secondNeed a) (guestPageFault a g) g) then (λ m. done (last base len a m))
 
 -- The walk of an access over an image of a base and length.
-unfoldable pub walkOf : ℕ → ℕ → Access → Walk (Outcome Machine)
+unfoldable pub walkOf : ℕ → ℕ → Access → Walk (Result Machine)
 walkOf base len a = translation (first-of a) then final base len a

@@ -23,9 +23,9 @@ use Rattle.access.specs.declared.Root.{Root}
 use Rattle.access.specs.Faults.{misalignment}
 use Rattle.walk.specs.declared.Walked.{Walked}
 use Rattle.stages.specs.Tree.{bind, run}
-use Rattle.stages.specs.Stages.{Outcome, yields, faults, look, begin, final, walkOf}
-use Rattle.walk.specs.Walked.{reached, walked}
-use Rattle.walk.specs.Place.{outcome, Tables}
+use Rattle.stages.specs.Stages.{Result, yields, faults, look, begin, final, walkOf}
+use Rattle.walk.specs.Walked.{reached, result, walked}
+use Rattle.walk.specs.Place.{Tables}
 use Rattle.translate.specs.declared.Answer.{Answer}
 use Rattle.effective.specs.declared.Mode.{Mode}
 use Rattle.translate.specs.declared.Translated.{Translated}
@@ -116,7 +116,7 @@ pub tables-if : (goes : Bool) (a : Access) → Tables a × (a .first .levels ≤
 tables-if true a h = h
 tables-if false a h = (record { first = omega arith; second = omega arith; firstRoot = omega arith; secondRoot = omega arith }, omega arith, omega arith)
 
-same-answer : (o : Outcome Machine) → answer (outcome (reached o)) ≡ answer o
+same-answer : (o : Result Machine) → answer (result (reached o)) ≡ answer o
 same-answer (yields m) = refl
 same-answer (faults f) = refl
 
@@ -126,12 +126,12 @@ module _ (h : Hart) (base : ℕ) (bytes : List ℕ) (kind : Kind) (address width
   a = accessOf h kind address width
 
   abbrev put-together : Stop → Translated
-  put-together s = record { hart = h; answer = answerOf s a (outcome (w .reached)); reads = w .reads; count = w .count }
+  put-together s = record { hart = h; answer = answerOf s a (result (w .reached)); reads = w .reads; count = w .count }
 
   abbrev walk-of : Stop → Walked
   walk-of s = walked (run (look base bytes) (walkOf base (length bytes) (onlyIf (walks s) a)))
 
-  stopped : (s : Stop) (x : Answer) → walks s ≡ false → answerOf s a (outcome (w .reached)) ≡ x → w ≡ walk-of s → put-together s ≡ unwalked h x
+  stopped : (s : Stop) (x : Answer) → walks s ≡ false → answerOf s a (result (w .reached)) ≡ x → w ≡ walk-of s → put-together s ≡ unwalked h x
   unfolding walkOf final begin bind run
   stopped s x n q e = rw (q, e, n)
 

@@ -13,7 +13,7 @@ use Rattle.rules.specs.declared.Kind.{Kind}
 use Rattle.access.specs.declared.Machine.{Machine}
 use Rattle.access.specs.Faults.{misalignment}
 use Rattle.stages.specs.Tree.{Ran, run}
-use Rattle.stages.specs.Stages.{Outcome, look, walkOf}
+use Rattle.stages.specs.Stages.{Result, look, walkOf}
 use Rattle.translate.specs.declared.Answer.{Answer}
 use Rattle.translate.specs.declared.Translated.{Translated}
 use Rattle.effective.specs.Effective.{accessOf}
@@ -22,7 +22,7 @@ use Rattle.translate.proofs.Accesses.{Aligned, aligned}
 
 module _ (h : Hart) (base : ℕ) (bytes : List ℕ) (kind : Kind) (address width : ℕ) where
   -- the walk over the image
-  abbrev pub ranOf : Ran (Outcome Machine)
+  abbrev pub ranOf : Ran (Result Machine)
   ranOf = run (look base bytes) (walkOf base (length bytes) (accessOf h kind address width))
 
   -- the answers that no walk gives

@@ -22,7 +22,7 @@ use Rattle.access.specs.declared.Access.{Access}
 use Rattle.access.specs.declared.Guest.{Guest}
 use Rattle.access.specs.declared.Machine.{Machine}
 use Rattle.access.specs.Faults.{raised, misalignment, accessFault, pageFault, guestPageFault, entryFault}
-use Rattle.stages.specs.Stages.{Outcome, yields, faults, look}
+use Rattle.stages.specs.Stages.{Result, yields, faults, look}
 use Rattle.stages.proofs.Raised.{every-fault}
 use Rattle.translate.specs.declared.Answer.{Answer}
 use Rattle.translate.specs.declared.Translated.{Translated}
@@ -108,7 +108,7 @@ module _ (h : Hart) (kind : Kind) (address width : ℕ) where
         at-once x (refused n) e = clash (cc)
         at-once x (misaligned-by p) e = let q : misalignment a ≡ f = cc in record { passing = p; possible = rw (← q) (can-misalign (context h) a from-guest) }
 
-        walked : (o : Outcome Machine) → (o ≡ faults f → impossible (context h) f ≡ false) → answer o ≡ Answer.Fault f → impossible (context h) f ≡ false
+        walked : (o : Result Machine) → (o ≡ faults f → impossible (context h) f ≡ false) → answer o ≡ Answer.Fault f → impossible (context h) f ≡ false
         walked (yields m) k e = clash (cc)
         walked (faults x) k e = let q : x ≡ f = cc in k (ap faults q)
 

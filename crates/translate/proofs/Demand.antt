@@ -19,7 +19,7 @@ use Rattle.access.specs.Needs.{secondNeed, entryNeed}
 use Rattle.access.specs.Faults.{misalignment}
 use Rattle.stages.specs.declared.Read.{Read}
 use Rattle.stages.specs.Tree.{Walk, Ran, run}
-use Rattle.stages.specs.Stages.{Outcome, yields, faults, look, walkOf}
+use Rattle.stages.specs.Stages.{Result, yields, faults, look, walkOf}
 use Rattle.stages.specs.Listed.{places, unused}
 use Rattle.stages.specs.Through.{Agree, EndsThrough}
 use Rattle.stages.proofs.Bounds.{at-most}
@@ -36,14 +36,14 @@ use Rattle.translate.proofs.Cases.{ranOf, AtOnce, refused, misaligned-b
 abbrev pub listed : Translated → List Read
 listed t = take (t .count) (t .reads)
 
-listed-walk : (h : Hart) (r : Ran (Outcome Machine)) → listed (walkedTo h r) ≡ r .reads
+listed-walk : (h : Hart) (r : Ran (Result Machine)) → listed (walkedTo h r) ≡ r .reads
 listed-walk h r = take-append-seam (r .reads) (unused (places - length (r .reads)))
 
 not-empty : {P : Type 0} (earlier : List Read) (x : Read) (later : List Read) → _≡_ {A = List Read} [] (earlier ++ (x ∷ later)) → P
 not-empty [] x later e = clash (cc)
 not-empty (y ∷ ys) x later e = clash (cc)
 
-address-yielded : (o : Outcome Machine) (m : Machine) → answer o ≡ Answer.Address m → o ≡ yields m
+address-yielded : (o : Result Machine) (m : Machine) → answer o ≡ Answer.Address m → o ≡ yields m
 address-yielded (yields x) m e = let q : x ≡ m = cc in ap yields q
 address-yielded (faults f) m e = clash (cc)
 
@@ -51,7 +51,7 @@ module _ (h : Hart) (base : ℕ) (bytes : List ℕ) (kind : Kind) (address width
   abbrev a : Access
   a = accessOf h kind address width
 
-  abbrev ran : Ran (Outcome Machine)
+  abbrev ran : Ran (Result Machine)
   ran = ranOf h base bytes kind address width
 
   abbrev t : Translated
@@ -72,7 +72,7 @@ module _ (h : Hart) (base : ℕ) (bytes : List ℕ) (kind : Kind) (address width
   refusal-empty n e =
       each h base bytes kind address width (λ (x : Translated). x .answer ≡ Answer.Refused n → x ≡ unwalked h (Answer.Refused n)) (λ x u q. ap (unwalked h) q) (λ p k q. never-refused (ran .end) n q) e
     where
-      never-refused : {P : Type 0} (o : Outcome Machine) (n : ℕ) → answer o ≡ Answer.Refused n → P
+      never-refused : {P : Type 0} (o : Result Machine) (n : ℕ) → answer o ≡ Answer.Refused n → P
       never-refused (yields m) n q = clash (cc)
       never-refused (faults f) n q = clash (cc)
 
@@ -127,10 +127,10 @@ pub same-image : (h : Hart) (base : ℕ) (s s′ : List ℕ) (kind : Kind) (addr
 unfolding translated
 same-image h base s s′ kind address width e = rw (← e) (go (not (passes h)) (unfit base (length s)) (unsupported kind address width) (misaligned kind address width))
   where
-    w : Walk (Outcome Machine)
+    w : Walk (Result Machine)
     w = walkOf base (length s) (accessOf h kind address width)
 
-    out : Bool → Bool → Bool → Bool → Ran (Outcome Machine) → Translated
+    out : Bool → Bool → Bool → Bool → Ran (Result Machine) → Translated
     out b₁ b₂ b₃ b₄ r =
         pick b₁ (unwalked h (Answer.Refused 2))
         (pick b₂ (unwalked h (Answer.Refused 1))

@@ -9,7 +9,7 @@ use Rattle.rules.specs.declared.Kind.{Kind}
 use Rattle.access.specs.declared.Access.{Access}
 use Rattle.access.specs.declared.Machine.{Machine}
 use Rattle.access.specs.Faults.{misalignment}
-use Rattle.stages.specs.Stages.{Outcome}
+use Rattle.stages.specs.Stages.{Result}
 use Rattle.translate.specs.declared.Answer.{Answer}
 use Rattle.translate.specs.declared.Stop.{Stop}
 use Rattle.translate.specs.declared.Stop.the-variants.{Refused, Misaligned, Walks}
@@ -46,7 +46,7 @@ onlyIf goes a = record {
 }
 
 -- the answer, from what it came to before the walk and what the walk came to
-abbrev pub answerOf : Stop → Access → Outcome Machine → Answer
+abbrev pub answerOf : Stop → Access → Result Machine → Answer
 answerOf (Refused n) a o = Answer.Refused n
 answerOf Misaligned a o = Answer.Fault (misalignment a)
 answerOf Walks a o = answer o

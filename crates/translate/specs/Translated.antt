@@ -13,7 +13,7 @@ use Rattle.rules.specs.Kind.{by}
 use Rattle.access.specs.declared.Machine.{Machine}
 use Rattle.access.specs.Faults.{misalignment}
 use Rattle.stages.specs.Tree.{Ran, run}
-use Rattle.stages.specs.Stages.{Outcome, yields, faults, look, walkOf}
+use Rattle.stages.specs.Stages.{Result, yields, faults, look, walkOf}
 use Rattle.stages.specs.Listed.{places, unused, padded}
 use Rattle.translate.specs.declared.Answer.{Answer}
 use Rattle.translate.specs.declared.Translated.{Translated}
@@ -34,7 +34,7 @@ abbrev pub misaligned : Kind → ℕ → ℕ → Bool
 misaligned kind address width = by kind false (not (eqb (address % width) 0)) (not (eqb (address % width) 0))
 
 -- "A translation answers an address, a refusal number or a fault"
-abbrev pub answer : Outcome Machine → Answer
+abbrev pub answer : Result Machine → Answer
 answer (yields m) = Answer.Address m
 answer (faults f) = Answer.Fault f
 
@@ -43,7 +43,7 @@ abbrev pub unwalked : Hart → Answer → Translated
 unwalked h x = record { hart = h; answer = x; reads = unused places; count = 0 }
 
 -- the walk's answer and list, with their count
-abbrev pub walkedTo : Hart → Ran (Outcome Machine) → Translated
+abbrev pub walkedTo : Hart → Ran (Result Machine) → Translated
 walkedTo h r = record { hart = h; answer = answer (r .end); reads = padded places (r .reads); count = length (r .reads) }
 
 -- "Order: 2, then 1, then the call's own."

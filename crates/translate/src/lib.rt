@@ -1,7 +1,7 @@
 // The translation of an access on a hart: refusals, misalignment and the walk.
 ghost use mathlib.Core.Path.{_≡_};
 ghost use mathlib.Core.Bool.{true};
-ghost use Rattle.walk.specs.Place.{outcome};
+ghost use Rattle.walk.specs.Walked.{result};
 ghost use Rattle.translate.specs.Stop.{stopOf, walks, onlyIf, answerOf};
 ghost use Rattle.translate.specs.Translated.{known, unsupported, misaligned, translated};
 use access::Access;
@@ -104,7 +104,7 @@ fn only_if(goes: bool, a: Access) -> Access
 }
 
 fn answered(s: Stop, a: Access, r: Reached) -> Answer
-    ensures { λ x. ⌜ x ≡ answerOf s a (outcome r) ⌝ }
+    ensures { λ x. ⌜ x ≡ answerOf s a (result r) ⌝ }
 {
     match s {
         Stop::Refused(number) => Answer::Refused(number),

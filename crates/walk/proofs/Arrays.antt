@@ -11,13 +11,12 @@ use Rattle.image.specs.declared.Entry.the-variants.{Value, Outside}
 use Rattle.access.specs.declared.Machine.{Machine}
 use Rattle.stages.specs.declared.Read.{Read}
 use Rattle.stages.specs.Tree.{Walk, done, ask, item, Ran, listed, found, run}
-use Rattle.stages.specs.Stages.{Outcome}
+use Rattle.stages.specs.Stages.{Result}
 use Rattle.stages.specs.Listed.{places, unused, padded}
 use Rattle.walk.specs.declared.Reached.{Reached}
 use Rattle.walk.specs.declared.Reached.the-variants.{At, Failed}
 use Rattle.walk.specs.declared.Walked.{Walked}
-use Rattle.walk.specs.Walked.{reached, walked}
-use Rattle.walk.specs.Place.{outcome}
+use Rattle.walk.specs.Walked.{reached, result, walked}
 
 pub record Into (A : Type 0) : Type 0 where
   pub items : List Read
@@ -54,12 +53,12 @@ filled n xs h =
     let x = item 0 0 (record { 0 = 0 }) 0 in
     sets-eq xs (unused n) 0 (omega (arith, length-replicate n x)) ∙ rw zero-add (ap (λ (ys : List Read). xs ++ ys) (drop-replicate n (length xs) x))
 
-abbrev pub handed : Into (Outcome Machine) → Walked
+abbrev pub handed : Into (Result Machine) → Walked
 handed i = record { reads = i .items; count = i .count; reached = reached (i .end) }
 
-pub walked-into : (look : Machine → Entry) (w : Walk (Outcome Machine)) → length (run look w .reads) ≤ places → handed (into look w (unused places) 0) ≡ walked (run look w)
+pub walked-into : (look : Machine → Entry) (w : Walk (Result Machine)) → length (run look w .reads) ≤ places → handed (into look w (unused places) 0) ≡ walked (run look w)
 walked-into look w h = rw (into-run look w (unused places) 0, filled places (run look w .reads) h, zero-add (length (run look w .reads)))
 
-pub same-reached : (r : Reached) → reached (outcome r) ≡ r
+pub same-reached : (r : Reached) → reached (result r) ≡ r
 same-reached (At m) = refl
 same-reached (Failed f) = refl

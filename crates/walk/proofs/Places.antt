@@ -4,7 +4,7 @@ use mathlib.Core.Bool.{true, false}
 use Prim.Native.Nat.{ℕ, zero, suc, _+_, _-_, _*_, _<_}
 use native.Mathlib.Omega.{arith}
 use lib.Dec.{eqb·suc-zero}
-use Rattle.bits.specs.Field.{pick, get}
+use Rattle.bits.specs.Field.{get}
 use Rattle.rules.specs.Address.{wellFormed, first, second, indexBits, index}
 use Rattle.rules.proofs.Indices.{below-root}
 use Rattle.access.specs.declared.Access.{Access}
@@ -15,7 +15,7 @@ use Rattle.access.specs.Faults.{pageFault, entryFault}
 use Rattle.walk.specs.declared.Next.the-variants.{Look}
 use Rattle.walk.specs.declared.Place.{Place}
 use Rattle.stages.specs.Tree.{done, bind}
-use Rattle.stages.specs.Stages.{yields, faults, Translation, _then_, slot, inspect, down, begin, translation, guest, machine, second-of, first-of, final, walkOf}
+use Rattle.stages.specs.Stages.{faults, Translation, _then_, slot, inspect, down, translation, guest, machine, second-of, first-of, final, walkOf}
 use Rattle.walk.specs.Place.{faultAt, second-at, below, arrived, entered, rest}
 use Rattle.stages.proofs.Trees.{then-assoc, begin-off, begin-at}
 

@@ -14,10 +14,9 @@ use Rattle.access.specs.Faults.{accessFault, guestPageFault, entryFault}
 use Rattle.walk.specs.declared.Next.{Next}
 use Rattle.walk.specs.declared.Next.the-variants.{Look, Ended}
 use Rattle.walk.specs.declared.Place.{Place}
-use Rattle.walk.specs.declared.Reached.{Reached}
-use Rattle.walk.specs.declared.Reached.the-variants.{At, Failed}
 use Rattle.stages.specs.Tree.{Walk, done, ask}
-use Rattle.stages.specs.Stages.{Outcome, yields, faults, Translation, _then_, follow, inspect, down, translation, second-of, first-of, last, final}
+use Rattle.stages.specs.Stages.{Result, faults, Translation, _then_, follow, inspect, down, translation, second-of, first-of, last, final}
+use Rattle.walk.specs.Walked.{result}
 
 -- what the second stage needs and raises: for the access itself where no first-stage level is left, else for a guest entry
 abbrev pub needAt : Access → ℕ → Need
@@ -37,38 +36,34 @@ abbrev pub addressOf : Access → Place → ℕ
 addressOf a p = pick (p .second) (p .guest .0) (a .address)
 
 -- where a pointer at a level leads
-unfoldable pub below : {A : Type 0} → Translation A → ℕ → ℕ → Walk (Outcome A)
+unfoldable pub below : {A : Type 0} → Translation A → ℕ → ℕ → Walk (Result A)
 below t zero table = done (faults (t .fault))
 below t (suc l) table = down t l table
 
-abbrev pub outcome : Reached → Outcome Machine
-outcome (At m) = yields m
-outcome (Failed f) = faults f
-
 module _ (base len : ℕ) (a : Access) where
   -- after the second stage: the access itself, or a first-stage entry
-  unfoldable pub arrived : ℕ → Machine → Walk (Outcome Machine)
+  unfoldable pub arrived : ℕ → Machine → Walk (Result Machine)
   arrived zero m = done (last base len a m)
   arrived (suc l) m = inspect (first-of a) l (below (first-of a) l) m then final base len a
 
-  unfoldable pub entered : ℕ → Guest → Walk (Outcome Machine)
+  unfoldable pub entered : ℕ → Guest → Walk (Result Machine)
   entered left g = translation (second-at a left g) then arrived left
 
   -- after an entry's value, of the second stage and of the first
-  abbrev pub secondAfter : Place → ℕ → Walk (Outcome Machine)
+  abbrev pub secondAfter : Place → ℕ → Walk (Result Machine)
   secondAfter p e =
       let t = second-at a (p .left) (p .guest) in
       follow t (judged (t .need) (p .level) (t .address) e) (below t (p .level)) then arrived (p .left)
 
-  abbrev pub firstAfter : ℕ → ℕ → Walk (Outcome Machine)
+  abbrev pub firstAfter : ℕ → ℕ → Walk (Result Machine)
   firstAfter level e = follow (first-of a) (judged (firstNeed a) level (a .address) e) (below (first-of a) level) then final base len a
 
-  abbrev pub after : Place → ℕ → Walk (Outcome Machine)
+  abbrev pub after : Place → ℕ → Walk (Result Machine)
   after p e = pick (p .second) (secondAfter p e) (firstAfter (p .level) e)
 
   -- what is left of the walk
-  unfoldable pub rest : Next → Walk (Outcome Machine)
-  rest (Ended r) = done (outcome r)
+  unfoldable pub rest : Next → Walk (Result Machine)
+  rest (Ended r) = done (result r)
   rest (Look p) = ask (pick (p .second) 2 1) (p .level) (p .at) (done (faults (accessFault a))) (after p)
 
 -- tables of at most five levels, below 2 ^ 56
@@ -88,6 +83,6 @@ SoundNext a (Look p) = Sound a p
 SoundNext a (Ended r) = Unit {0}
 
 -- the place leads on to a walk
-pub record Leads (base len : ℕ) (a : Access) (w : Walk (Outcome Machine)) (n : Next) : Type 0 where
+pub record Leads (base len : ℕ) (a : Access) (w : Walk (Result Machine)) (n : Next) : Type 0 where
   pub same : rest base len a n ≡ w
   pub sound : SoundNext a n

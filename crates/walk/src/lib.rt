@@ -7,8 +7,9 @@ ghost use Rattle.rules.specs.Entry.{judged};
 ghost use Rattle.access.specs.Needs.{firstNeed};
 ghost use Rattle.stages.specs.Tree.{run};
 ghost use Rattle.stages.specs.Stages.{look, walkOf, onward, last};
-ghost use Rattle.walk.specs.Walked.{walked, reached};
-ghost use Rattle.walk.specs.Place.{needAt, faultAt, needOf, addressOf, arrived, entered, outcome, secondAfter, firstAfter, after, Tables, Sound, Leads};
+ghost use Rattle.walk.specs.declared.Reached.the-variants as Reached;
+ghost use Rattle.walk.specs.Walked.{result, walked};
+ghost use Rattle.walk.specs.Place.{needAt, faultAt, needOf, addressOf, arrived, entered, secondAfter, firstAfter, after, Tables, Sound, Leads};
 use access::Access;
 use access::Guest;
 use access::Machine;
@@ -17,8 +18,8 @@ use exceptions::Exception;
 use image::Entry;
 use image::fetch;
 use image::inside;
+use rules::Judgement;
 use rules::Need;
-use rules::Verdict;
 use stages::Read;
 
 // What a walk comes to.
@@ -69,19 +70,19 @@ fn translated(a: Access, p: Place) -> u64
     select(p.second, guest.0, a.address)
 }
 
-// What the second stage raises.
-fn fault(a: Access, left: u64, guest: Guest) -> Exception
-    ensures { λ r. ⌜ r ≡ faultAt a left guest ⌝ }
+// The second stage's answer where a fault rule holds.
+fn fault(a: Access, left: u64, guest: Guest) -> Reached
+    ensures { λ r. ⌜ r ≡ Reached.Failed (faultAt a left guest) ⌝ }
 {
     if left == 0 {
-        return a.guest_page_fault(guest);
+        return Reached::Failed(a.guest_page_fault(guest));
     }
-    a.entry_fault(guest)
+    Reached::Failed(a.entry_fault(guest))
 }
 
 // The end of the walk: the whole access must lie in the image.
 fn conclude(base: u64, len: u64, a: Access, m: Machine) -> Reached
-    ensures { λ r. ⌜ outcome r ≡ last base len a m ⌝ }
+    ensures { λ r. ⌜ result r ≡ last base len a m ⌝ }
 {
     if inside(base, len, m.0, a.width) {
         return Reached::At(m);
@@ -93,7 +94,7 @@ fn conclude(base: u64, len: u64, a: Access, m: Machine) -> Reached
 // the access's own.
 fn arrive(base: u64, len: u64, a: Access, left: u64, guest: Guest, answer: Reached) -> Next
     requires { ⌜ left ≤ a .first .levels ⌝ }
-    ensures { λ r. ⌜ Leads base len a (onward (arrived base len a left) (outcome answer)) r ⌝ }
+    ensures { λ r. ⌜ Leads base len a (onward (arrived base len a left) (result answer)) r ⌝ }
 {
     let Reached::At(m) = answer else {
         return Next::Ended(answer);
@@ -122,14 +123,7 @@ fn enter(base: u64, len: u64, a: Access, left: u64, guest: Guest) -> Next
         return arrive(base, len, a, left, guest, Reached::At(Machine(address)));
     }
     if !rules::is_small(levels, address) {
-        return arrive(
-            base,
-            len,
-            a,
-            left,
-            guest,
-            Reached::Failed(fault(a, left, guest)),
-        );
+        return arrive(base, len, a, left, guest, fault(a, left, guest));
     }
     Next::Look(Place {
         second: true,
@@ -141,7 +135,7 @@ fn enter(base: u64, len: u64, a: Access, left: u64, guest: Guest) -> Next
 }
 
 // On from a second-stage entry.
-fn second_step(base: u64, len: u64, a: Access, p: Place, e: u64, v: Verdict) -> Next
+fn second_step(base: u64, len: u64, a: Access, p: Place, e: u64, v: Judgement) -> Next
     requires { ⌜ Tables a × (p .level < a .second .levels) × (p .left ≤ a .first .levels) × (v ≡ judged (needAt a (p .left)) (p .level) (p .guest .0) e) ⌝ }
     ensures { λ r. ⌜ Leads base len a (secondAfter base len a p e) r ⌝ }
 {
@@ -150,16 +144,9 @@ fn second_step(base: u64, len: u64, a: Access, p: Place, e: u64, v: Verdict) -> 
     let guest = p.guest;
     let address = guest.0;
     match v {
-        Verdict::Bad => arrive(
-            base,
-            len,
-            a,
-            left,
-            guest,
-            Reached::Failed(fault(a, left, guest)),
-        ),
-        Verdict::Leaf(x) => arrive(base, len, a, left, guest, Reached::At(Machine(x))),
-        Verdict::Pointer(table) => Next::Look(Place {
+        Judgement::Bad => arrive(base, len, a, left, guest, fault(a, left, guest)),
+        Judgement::Leaf(x) => arrive(base, len, a, left, guest, Reached::At(Machine(x))),
+        Judgement::Pointer(table) => Next::Look(Place {
             second: true,
             level: level - 1,
             at: Machine(table + 8 * rules::index(level - 1, address)),
@@ -170,15 +157,15 @@ fn second_step(base: u64, len: u64, a: Access, p: Place, e: u64, v: Verdict) -> 
 }
 
 // On from a first-stage entry.
-fn first_step(base: u64, len: u64, a: Access, level: u64, e: u64, v: Verdict) -> Next
+fn first_step(base: u64, len: u64, a: Access, level: u64, e: u64, v: Judgement) -> Next
     requires { ⌜ Tables a × (level < a .first .levels) × (v ≡ judged (firstNeed a) level (a .address) e) ⌝ }
     ensures { λ r. ⌜ Leads base len a (firstAfter base len a level e) r ⌝ }
 {
     let address = a.address;
     match v {
-        Verdict::Bad => Next::Ended(Reached::Failed(a.page_fault())),
-        Verdict::Leaf(x) => enter(base, len, a, 0, Guest(x)),
-        Verdict::Pointer(table) => {
+        Judgement::Bad => Next::Ended(Reached::Failed(a.page_fault())),
+        Judgement::Leaf(x) => enter(base, len, a, 0, Guest(x)),
+        Judgement::Pointer(table) => {
             enter(
                 base,
                 len,

@@ -16,7 +16,7 @@ returns-2 : tie.Need-returns-2
 returns-2 c =
     let a = c .before .before .before .before .before .before .args in
     let w = sym (c .before .before .before .is-small .ensures) ∙ not-true _ (c .before .before .if2 .taken) in
-    rw (← entered-bad (a .base) (a .len) (a .a) (a .left) (a .guest) (omega (arith, c .before .before .before .before .if1 .left)) w, ← c .before .fault .ensures) (c .arrive2 .ensures)
+    rw (← entered-bad (a .base) (a .len) (a .a) (a .left) (a .guest) (omega (arith, c .before .before .before .before .if1 .left)) w) (rw (c .before .fault .ensures) at (c .arrive2 .ensures))
 
 returns-3 : tie.Need-returns-3
 returns-3 c =

@@ -1,7 +1,7 @@
 use mathlib.Core.Path.{sym, ap, _∙_}
 use native.Mathlib.Omega.{arith}
 use Rattle.exceptions.specs.declared.Exception.{Exception}
-use Rattle.rules.proofs.Verdicts.{pointer-bounds}
+use Rattle.rules.proofs.Judgements.{pointer-bounds}
 use Rattle.stages.specs.Tree.{done, bind}
 use Rattle.stages.specs.Stages.{faults, follow, guest}
 use Rattle.walk.specs.Place.{rest}

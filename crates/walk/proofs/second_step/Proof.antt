@@ -1,6 +1,6 @@
 use mathlib.Core.Path.{sym, _∙_}
 use native.Mathlib.Omega.{arith}
-use Rattle.rules.proofs.Verdicts.{pointer-bounds}
+use Rattle.rules.proofs.Judgements.{pointer-bounds}
 use Rattle.stages.specs.Tree.{bind}
 use Rattle.stages.specs.Stages.{follow}
 use Rattle.walk.proofs.Places.{second-pointer}
@@ -8,18 +8,18 @@ use borrow.Author.Needs.{needs}
 use Rattle.walk.proofs.second_step.Statement.{statement}
 use Rattle.walk.proofs.second_step.Tie as tie
 
-sub-t18 : tie.Need-sub-t18
-sub-t18 c = omega (arith, pointer-bounds _ _ _ _ _ (sym (c .before .before .before .before .pre .3) ∙ c .before .v2 .given .1) .0)
+sub-t17 : tie.Need-sub-t17
+sub-t17 c = omega (arith, pointer-bounds _ _ _ _ _ (sym (c .before .before .before .before .pre .3) ∙ c .before .v2 .given .1) .0)
 
 sub-index : tie.Need-sub-index
 sub-index c = omega (arith, pointer-bounds _ _ _ _ _ (sym (c .before .before .before .before .pre .3) ∙ c .before .v2 .given .1) .0)
 
-add-t22 : tie.Need-add-t22
-add-t22 c = omega (arith, pointer-bounds _ _ _ _ _ (sym (c .before .before .before .before .before .pre .3) ∙ c .before .before .v2 .given .1) .1, c .index .ensures .1)
+add-t21 : tie.Need-add-t21
+add-t21 c = omega (arith, pointer-bounds _ _ _ _ _ (sym (c .before .before .before .before .before .pre .3) ∙ c .before .before .v2 .given .1) .1, c .index .ensures .1)
 
 returns : tie.Need-returns
 unfolding follow bind
-returns c = rw (sym (c .before .before .before .before .before .pre .3) ∙ c .before .before .enum-told .given .1, ← c .before .fault .ensures) (c .arrive .ensures)
+returns c = rw (sym (c .before .before .before .before .before .pre .3) ∙ c .before .before .enum-told .given .1) (rw (c .before .fault .ensures) at (c .arrive .ensures))
 
 returns-2 : tie.Need-returns-2
 unfolding follow bind
@@ -41,5 +41,5 @@ pub second-step-spec : {M : Type 1} → statement M
 second-step-spec =
     tie.close
     (tie.spec
-    (λ c. search needs) (λ c κs. search needs) (λ c κs. search needs) (λ c. search needs) (λ c κs. search needs) (λ c. search needs) sub-t18 sub-index
-    (λ c κs. search needs) (λ c. search needs) add-t22 returns returns-2 returns-3)
+    (λ c. search needs) (λ c κs. search needs) (λ c κs. search needs) (λ c. search needs) (λ c κs. search needs) (λ c. search needs) sub-t17 sub-index
+    (λ c κs. search needs) (λ c. search needs) add-t21 returns returns-2 returns-3)

@@ -8,7 +8,7 @@ unfolding badLeaf
 returns c =
     rw (
       c .grants .ensures,
-      c .before .reaches .ensures,
+      c .before .admits .ensures,
       c .before .before .test .ensures,
       c .before .before .before .has2 .ensures,
       c .before .before .before .before .has .ensures,

@@ -9,9 +9,9 @@ use Rattle.bits.specs.Field.{get, pick}
 use Rattle.bits.proofs.Bools.{clash}
 use Rattle.bits.proofs.Fields.{get-lt}
 use Rattle.rules.specs.declared.Need.{Need}
-use Rattle.rules.specs.declared.Verdict.{Verdict}
-use Rattle.rules.specs.declared.Verdict.the-variants.{Pointer, Leaf, Bad}
-use Rattle.rules.specs.Entry.{PPN, pointer, reached, granted, badPointer, badLeaf, faulty, target, offset, judged}
+use Rattle.rules.specs.declared.Judgement.{Judgement}
+use Rattle.rules.specs.declared.Judgement.the-variants.{Pointer, Leaf, Bad}
+use Rattle.rules.specs.Entry.{PPN, pointer, admitted, granted, badPointer, badLeaf, faulty, target, offset, judged}
 
 or-true : (a : Bool) → (a || true) ≡ true
 or-true true = refl
@@ -27,11 +27,11 @@ module _ (n : Need) (level e : ℕ) (good : faulty n level e ≡ false) where
       go true z = clash (sym good ∙ simp (p, z, or-true))
       go false z = refl
 
-  pub leaf-right : pointer e ≡ false → (reached n e && granted n e) ≡ true
+  pub leaf-right : pointer e ≡ false → (admitted n e && granted n e) ≡ true
   unfolding faulty badLeaf
-  leaf-right p = go (reached n e && granted n e) refl
+  leaf-right p = go (admitted n e && granted n e) refl
     where
-      go : (b : Bool) → (reached n e && granted n e) ≡ b → b ≡ true
+      go : (b : Bool) → (admitted n e && granted n e) ≡ b → b ≡ true
       go true z = refl
       go false z = clash (sym good ∙ simp (p, z, or-true))
 
@@ -46,7 +46,7 @@ pub record IsLeaf (n : Need) (level address e x : ℕ) : Type 0 where
   pub to : x ≡ target e + get (offset level) address
 
 module _ (n : Need) (level address e : ℕ) where
-  chosen : Bool → Bool → Verdict
+  chosen : Bool → Bool → Judgement
   chosen f p = pick f Bad (pick p (Pointer (target e)) (Leaf (target e + get (offset level) address)))
 
   pub is-pointer : (table : ℕ) → judged n level address e ≡ Pointer table → IsPointer n level e table
