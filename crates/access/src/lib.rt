@@ -7,7 +7,8 @@ use exceptions::Exception;
 use rules::Kind;
 use rules::Need;
 
-// A guest physical address: what the first stage yields. Only the second stage, also when off, makes a machine address of it.
+// A guest physical address: where a first-stage entry is, and what the first stage yields. Only the second stage, also when
+// off, makes a machine address of it.
 pub struct Guest(pub u64);
 
 pub struct Machine(pub u64);
@@ -18,8 +19,8 @@ pub struct Root {
     pub ppn: u64,
 }
 
-// An access, with what the walk takes from the hart: the effective V, whether the effective mode is a user mode, SUM, each stage's MXR
-// and tables.
+// An access, with what the walk takes from the hart: the effective V, whether the effective mode is a user mode, SUM, the MXR that
+// counts at the first stage (mxr) and at the second (mmxr, mstatus's), and each stage's tables.
 pub struct Access {
     pub kind: Kind,
     pub address: u64,

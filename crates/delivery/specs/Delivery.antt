@@ -14,7 +14,7 @@ abbrev pub target : Context → (medeleg hedeleg cause : ℕ) → Target
 target c medeleg hedeleg cause =
     pick (isM c || not (has cause medeleg)) M (pick (eqb (c .v) 1 && has cause hedeleg) VS HS)
 
--- environment calls give 8 (U, VU), 9, 10, 11
+-- environment calls give 8 (U, VU), 9 (HS), 10 (VS), 11 (M)
 abbrev pub callCause : Context → ℕ
 callCause c = pick (isM c) 11 (pick (isVS c) 10 (pick (isHS c) 9 8))
 

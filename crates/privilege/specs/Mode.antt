@@ -1,4 +1,4 @@
--- Five modes: U, HS, M (V=0) and VU, VS (V=1) (document 01).
+-- Five modes: U, HS, M (V=0) and VU, VS (V=1) (document 01); check 2 of the mode; what an instruction gives.
 use mathlib.Core.Bool.{Bool, _&&_, _||_, not}
 use Prim.Native.Nat.{ℕ}
 use lib.Dec.{eqb}
@@ -23,14 +23,15 @@ isVU c = eqb (c .v) 1 && eqb (c .privilege) 0
 abbrev pub isVS : Context → Bool
 isVS c = eqb (c .v) 1 && eqb (c .privilege) 1
 
--- a control's bit is 1
+-- a field of one bit is 1
 abbrev pub isSet : Field → ℕ → Bool
 isSet f x = eqb (get f x) 1
 
--- check 2 of the mode: it is among the five, and MPRV=1 outside M is refused
+-- check 2: "a mode not among the five" is refused
 abbrev pub amongFive : Context → Bool
 amongFive c = isU c || (isHS c || (isM c || (isVU c || isVS c)))
 
+-- check 2: "MPRV=1 outside M" is refused
 abbrev pub strayMPRV : Context → Bool
 strayMPRV c = isSet MPRV (c .mstatus) && not (isM c)
 

@@ -1,4 +1,4 @@
--- What an entry's verdict tells of it. Assumes nothing.
+-- What an entry's judgement tells of it. Assumes nothing.
 use mathlib.Core.Path.{_≡_, refl, sym, _∙_}
 use mathlib.Core.Bool.{Bool, true, false, _&&_, _||_}
 use Prim.Native.Nat.{ℕ, _+_, _^_, _<_}

@@ -14,11 +14,11 @@ abbrev pub number : Stage → ℕ
 number first = 1
 number second = 2
 
--- "bits 63:39 equal bit 38": the bits from one up are all as the bit below them.
+-- "bits 63:39 equal bit 38": the bits from low up all equal the bit below them.
 unfoldable pub extended : ℕ → ℕ → Bool
 extended low address = eqb (get (span 63 low) address) (pick (has (low - 1) address) (get (span 63 low) top) 0)
 
--- "bits 63:41 zero": there is none from one up.
+-- "bits 63:41 zero": no bit from low up is set.
 unfoldable pub small : ℕ → ℕ → Bool
 small low address = eqb (get (span 63 low) address) 0
 

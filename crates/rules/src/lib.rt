@@ -67,7 +67,7 @@ fn is_pointer(e: u64) -> bool
     !(has(R, e) | has(X, e))
 }
 
-// Whether a rule finds fault with an entry, pointer or leaf.
+// Whether a rule that pointers and leaves share finds fault with an entry.
 fn is_malformed(e: u64) -> bool
     ensures { λ r. ⌜ r ≡ malformed e ⌝ }
 {

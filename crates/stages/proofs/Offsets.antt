@@ -52,7 +52,7 @@ module _ (level x k : ℕ) where
 -- a stage keeps the low bits of the address that it translates
 pub record Kept {A : Type 0} (t : Translation A) (k : ℕ) (r : A) : Type 0 where
   pub to : ℕ
-  pub same : r ≡ t .kind to
+  pub same : r ≡ t .wrap to
   pub low : to % 2 ^ k ≡ t .address % 2 ^ k
 
 module _ {A : Type 0} (look : Machine → Entry) (t : Translation A) (k : ℕ) (small : k ≤ 12) (r : A) where

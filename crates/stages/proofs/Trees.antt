@@ -15,7 +15,7 @@ then-assoc (done (faults x)) f g = refl
 then-assoc (ask s l m outside k) f g = λ i. ask s l m (then-assoc outside f g i) (λ v. then-assoc (k v) f g i)
 
 -- a stage that is off
-pub begin-off : {A : Type 0} (t : Translation A) (levels : ℕ) → levels ≡ 0 → begin t levels ≡ done (yields (t .kind (t .address)))
+pub begin-off : {A : Type 0} (t : Translation A) (levels : ℕ) → levels ≡ 0 → begin t levels ≡ done (yields (t .wrap (t .address)))
 unfolding begin
 begin-off t levels e = rw e
 

@@ -28,7 +28,7 @@ machine x = record { 0 = x }
 abbrev pub look : ℕ → List ℕ → Machine → Entry
 look base bytes m = entry base bytes (m .0)
 
--- what a stage comes to
+-- what a stage, and the whole walk, ends with
 pub data Result (A : Type 0) : Type 0 where
   yields : A → Result A
   faults : Exception → Result A
@@ -43,7 +43,7 @@ abbrev pub _then_ : {A B : Type 0} → Walk (Result A) → (A → Walk (Result B
 w then f = bind w (onward f)
 
 -- A stage's translation of an address: what it needs of a leaf, what a fault rule raises and what an entry outside the image
--- does, how an entry's own address becomes a machine address, and of which kind the result is.
+-- does, how an entry's own address becomes a machine address, and which kind of address the result is (wrap).
 pub record Translation (A : Type 0) : Type 0 where
   pub stage : Stage
   pub tables : Root
@@ -52,18 +52,18 @@ pub record Translation (A : Type 0) : Type 0 where
   pub fault : Exception
   pub outside : Exception
   pub through : ℕ → Walk (Result Machine)
-  pub kind : ℕ → A
+  pub wrap : ℕ → A
 
 -- "The entry is at the table plus 8 times the index."
 abbrev pub slot : {A : Type 0} → Translation A → ℕ → ℕ → ℕ
 slot t level table = table + 8 * index (t .stage) (t .tables .levels) level (t .address)
 
--- After the fault rules: "a pointer: the level falls by one, and the table is at the entry's PPN times 4096"; "Any other is a
--- leaf: the stage yields".
+-- After the fault rules: "a pointer: the level falls by one, and the table is at the entry's PPN .. times 4096"; "Any other is a
+-- leaf: the stage yields ..".
 unfoldable pub follow : {A : Type 0} → Translation A → Judgement → (ℕ → Walk (Result A)) → Walk (Result A)
 follow t Bad next = done (faults (t .fault))
 follow t (Pointer table) next = next table
-follow t (Leaf x) next = done (yields (t .kind x))
+follow t (Leaf x) next = done (yields (t .wrap x))
 
 -- "An entry in the image is read, eight bytes, and listed; then the fault rules above are tried."
 unfoldable pub inspect : {A : Type 0} → Translation A → ℕ → (ℕ → Walk (Result A)) → Machine → Walk (Result A)
@@ -75,16 +75,16 @@ unfoldable pub down : {A : Type 0} → Translation A → ℕ → ℕ → Walk (R
 down t zero table = t .through (slot t zero table) then inspect t zero (λ x. done (faults (t .fault)))
 down t (suc l) table = t .through (slot t (suc l) table) then inspect t (suc l) (down t l)
 
--- "A stage that is on begins by testing its address's high bits. It starts at its top level, with the table at its
--- register's PPN times 4096." With no levels it is Bare and passes the address on.
+-- "A stage that is on begins by testing its address's high bits. It starts at its top level, .. with the table at its
+-- register's PPN times 4096." With no levels it is off and passes the address on.
 unfoldable pub begin : {A : Type 0} → Translation A → ℕ → Walk (Result A)
-begin t zero = done (yields (t .kind (t .address)))
+begin t zero = done (yields (t .wrap (t .address)))
 begin t (suc l) = pick (wellFormed (t .stage) (suc l) (t .address)) (down t l (t .tables .ppn * 4096)) (done (faults (t .fault)))
 
 abbrev pub translation : {A : Type 0} → Translation A → Walk (Result A)
 translation t = begin t (t .tables .levels)
 
--- The second stage: its tables' own addresses are machine addresses.
+-- The second stage: its tables' own addresses are machine addresses. With V=0 it has no levels.
 abbrev pub second-of : Access → Need → Exception → Guest → Translation Machine
 second-of a need fault g =
     record {
@@ -95,7 +95,7 @@ second-of a need fault g =
       fault = fault;
       outside = accessFault a;
       through = λ x. done (yields (machine x));
-      kind = machine;
+      wrap = machine;
     }
 
 -- The first stage: an entry's "address goes through" the second "before the read".
@@ -109,7 +109,7 @@ first-of a =
       fault = pageFault a;
       outside = accessFault a;
       through = λ x. translation (second-of a entryNeed (entryFault a (guest x)) (guest x));
-      kind = guest;
+      wrap = guest;
     }
 
 -- "The last address, if the whole access lies in the image, is the answer", "else 1, 5, 7".

@@ -1,4 +1,4 @@
--- Where the code stands between two reads, as what is left of the walk.
+-- Where the code stands between two reads, as what is left of the walk. Serves contracts below the public face.
 use mathlib.Core.Path.{_≡_}
 use Prim.Native.Nat.{ℕ, zero, suc, _^_, _<_, _≤_}
 use lib.Dec.{eqb}
@@ -82,7 +82,7 @@ abbrev pub SoundNext : Access → Next → Type 0
 SoundNext a (Look p) = Sound a p
 SoundNext a (Ended r) = Unit {0}
 
--- the place leads on to a walk
+-- what comes next, a place or the end, stands for this walk
 pub record Leads (base len : ℕ) (a : Access) (w : Walk (Result Machine)) (n : Next) : Type 0 where
   pub same : rest base len a n ≡ w
   pub sound : SoundNext a n

@@ -22,12 +22,13 @@ use rules::Judgement;
 use rules::Need;
 use stages::Read;
 
-// What a walk comes to.
+// How a walk ends.
 pub enum Reached {
     At(Machine),
     Failed(Exception),
 }
 
+// What a walk comes to: the list of reads with their count, and its end.
 pub struct Walked {
     pub reads: [Read; 15],
     pub count: usize,
@@ -35,7 +36,8 @@ pub struct Walked {
 }
 
 // The entry that is looked at next: its stage, level and address. A second-stage entry also has what it is looked at for: the
-// guest address that is translated, and how many first-stage levels are left, 0 where it is the access's own.
+// guest address that is translated, and how many first-stage levels are left, 0 where it is the access's own. (A first-stage
+// entry carries them unused.)
 pub struct Place {
     pub second: bool,
     pub level: u64,
@@ -70,7 +72,7 @@ fn translated(a: Access, p: Place) -> u64
     select(p.second, guest.0, a.address)
 }
 
-// The second stage's answer where a fault rule holds.
+// The second stage's fault, as its answer.
 fn fault(a: Access, left: u64, guest: Guest) -> Reached
     ensures { λ r. ⌜ r ≡ Reached.Failed (faultAt a left guest) ⌝ }
 {
@@ -135,15 +137,15 @@ fn enter(base: u64, len: u64, a: Access, left: u64, guest: Guest) -> Next
 }
 
 // On from a second-stage entry.
-fn second_step(base: u64, len: u64, a: Access, p: Place, e: u64, v: Judgement) -> Next
-    requires { ⌜ Tables a × (p .level < a .second .levels) × (p .left ≤ a .first .levels) × (v ≡ judged (needAt a (p .left)) (p .level) (p .guest .0) e) ⌝ }
+fn second_step(base: u64, len: u64, a: Access, p: Place, e: u64, j: Judgement) -> Next
+    requires { ⌜ Tables a × (p .level < a .second .levels) × (p .left ≤ a .first .levels) × (j ≡ judged (needAt a (p .left)) (p .level) (p .guest .0) e) ⌝ }
     ensures { λ r. ⌜ Leads base len a (secondAfter base len a p e) r ⌝ }
 {
     let level = p.level;
     let left = p.left;
     let guest = p.guest;
     let address = guest.0;
-    match v {
+    match j {
         Judgement::Bad => arrive(base, len, a, left, guest, fault(a, left, guest)),
         Judgement::Leaf(x) => arrive(base, len, a, left, guest, Reached::At(Machine(x))),
         Judgement::Pointer(table) => Next::Look(Place {
@@ -157,12 +159,12 @@ fn second_step(base: u64, len: u64, a: Access, p: Place, e: u64, v: Judgement) -
 }
 
 // On from a first-stage entry.
-fn first_step(base: u64, len: u64, a: Access, level: u64, e: u64, v: Judgement) -> Next
-    requires { ⌜ Tables a × (level < a .first .levels) × (v ≡ judged (firstNeed a) level (a .address) e) ⌝ }
+fn first_step(base: u64, len: u64, a: Access, level: u64, e: u64, j: Judgement) -> Next
+    requires { ⌜ Tables a × (level < a .first .levels) × (j ≡ judged (firstNeed a) level (a .address) e) ⌝ }
     ensures { λ r. ⌜ Leads base len a (firstAfter base len a level e) r ⌝ }
 {
     let address = a.address;
-    match v {
+    match j {
         Judgement::Bad => Next::Ended(Reached::Failed(a.page_fault())),
         Judgement::Leaf(x) => enter(base, len, a, 0, Guest(x)),
         Judgement::Pointer(table) => {
@@ -182,14 +184,14 @@ fn step(base: u64, len: u64, a: Access, p: Place, e: u64) -> Next
     requires { ⌜ Tables a × Sound a p ⌝ }
     ensures { λ r. ⌜ Leads base len a (after base len a p e) r ⌝ }
 {
-    let v = need(a, p).judge(p.level, translated(a, p), e);
+    let j = need(a, p).judge(p.level, translated(a, p), e);
     if p.second {
-        return second_step(base, len, a, p, e, v);
+        return second_step(base, len, a, p, e, j);
     }
-    first_step(base, len, a, p.level, e, v)
+    first_step(base, len, a, p.level, e, j)
 }
 
-// The first place of a walk.
+// The first place of a walk, or its end.
 fn start(base: u64, len: u64, a: Access) -> Next
     requires { ⌜ Tables a ⌝ }
     ensures { λ r. ⌜ Leads base len a (walkOf base len a) r ⌝ }

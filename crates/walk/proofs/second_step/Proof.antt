@@ -9,13 +9,13 @@ use Rattle.walk.proofs.second_step.Statement.{statement}
 use Rattle.walk.proofs.second_step.Tie as tie
 
 sub-t17 : tie.Need-sub-t17
-sub-t17 c = omega (arith, pointer-bounds _ _ _ _ _ (sym (c .before .before .before .before .pre .3) ∙ c .before .v2 .given .1) .0)
+sub-t17 c = omega (arith, pointer-bounds _ _ _ _ _ (sym (c .before .before .before .before .pre .3) ∙ c .before .j2 .given .1) .0)
 
 sub-index : tie.Need-sub-index
-sub-index c = omega (arith, pointer-bounds _ _ _ _ _ (sym (c .before .before .before .before .pre .3) ∙ c .before .v2 .given .1) .0)
+sub-index c = omega (arith, pointer-bounds _ _ _ _ _ (sym (c .before .before .before .before .pre .3) ∙ c .before .j2 .given .1) .0)
 
 add-t21 : tie.Need-add-t21
-add-t21 c = omega (arith, pointer-bounds _ _ _ _ _ (sym (c .before .before .before .before .before .pre .3) ∙ c .before .before .v2 .given .1) .1, c .index .ensures .1)
+add-t21 c = omega (arith, pointer-bounds _ _ _ _ _ (sym (c .before .before .before .before .before .pre .3) ∙ c .before .before .j2 .given .1) .1, c .index .ensures .1)
 
 returns : tie.Need-returns
 unfolding follow bind
@@ -23,17 +23,17 @@ returns c = rw (sym (c .before .before .before .before .before .pre .3) ∙ c .b
 
 returns-2 : tie.Need-returns-2
 unfolding follow bind
-returns-2 c = rw (sym (c .before .before .before .before .before .pre .3) ∙ c .before .before .v .given .1) (c .arrive2 .ensures)
+returns-2 c = rw (sym (c .before .before .before .before .before .pre .3) ∙ c .before .before .j .given .1) (c .arrive2 .ensures)
 
 returns-3 : tie.Need-returns-3
 unfolding follow
 returns-3 c =
     let a = c .before .before .before .before .before .args in
-    let j = sym (c .before .before .before .before .before .pre .3) ∙ c .before .before .v2 .given .1 in
+    let j = sym (c .before .before .before .before .before .pre .3) ∙ c .before .before .j2 .given .1 in
     let k = pointer-bounds _ _ _ _ _ j in
     rw j
     (record {
-      same = second-pointer (a .base) (a .len) (a .a) (a .p .left) (a .p .level) (c .before .before .v2 .given .0 .0) (c .index .result) (a .p .guest) (k .0) (c .before .before .before .before .before .pre .1) (c .index .ensures .0);
+      same = second-pointer (a .base) (a .len) (a .a) (a .p .left) (a .p .level) (c .before .before .j2 .given .0 .0) (c .index .result) (a .p .guest) (k .0) (c .before .before .before .before .before .pre .1) (c .index .ensures .0);
       sound = record { level = omega (arith, k .0, c .before .before .before .before .before .pre .1); left = c .before .before .before .before .before .pre .2 };
     })
 
