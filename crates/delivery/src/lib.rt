@@ -10,6 +10,7 @@ pub enum Target {
     VS,
 }
 
+// Where a trap goes: from M to M, otherwise by the delegation registers.
 pub fn delivers_to(c: Context, medeleg: u64, hedeleg: u64, cause: u64) -> Target
     ensures { λ r. ⌜ r ≡ target c medeleg hedeleg cause ⌝ }
 {

@@ -60,6 +60,7 @@ accessRow h own place row form w writes =
 abbrev pub unlisted : Hart → ℕ → Accessed
 unlisted h own = answer (settled h own (verdict true false) (done h)) 0
 
+-- the row that bears the number, or none
 abbrev pub accessFound : Found → Hart → ℕ → Form → ℕ → Bool → Accessed
 accessFound Nothing h own form w writes = unlisted h own
 accessFound (At place row) h own form w writes = accessRow h own place row form w writes

@@ -14,5 +14,6 @@ places = 15
 abbrev pub unused : ℕ → List Read
 unused n = replicate n (item 0 0 (machine 0) 0)
 
+-- reads in order, the rest of n places unused
 abbrev pub padded : ℕ → List Read → List Read
 padded n xs = xs ++ unused (n - length xs)
