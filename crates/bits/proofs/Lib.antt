@@ -5,3 +5,4 @@ pub mod Fields
 pub mod Tests
 pub mod Assign
 pub mod Every
+pub mod Tested

@@ -15,7 +15,6 @@ pub extern "C" fn balcumentri_translate(
 ) -> u64
     ensures { λ r. ⌜ (r, now (out .exit)) ≡ onTranslation (now (h .entry)) base (now (bytes .entry)) kind address width (now (out .entry)) ⌝ }
 {
-    let k = listing::kind_of(kind);
-    let t = translate::translate(layout::hart_of(h), base, bytes, k, address, width);
-    listing::put_translation(t, h.len(), kind, &mut *out)
+    let hart = layout::hart_of(h);
+    listing::put_translation(hart, h.len(), base, bytes, kind, address, width, &mut *out)
 }

@@ -1,8 +1,8 @@
 // The image: a base and a lent run of bytes, never written.
 ghost use mathlib.Core.Path.{_≡_};
-ghost use Prim.Native.Nat.{_+_, _^_, _<_, _≤_};
+ghost use Prim.Native.Nat.{_+_, _-_, _^_, _<_, _≤_};
 ghost use lib.ListN.{length};
-ghost use Rattle.image.specs.Image.{unfit, within, four, eight, entry};
+ghost use Rattle.image.specs.Image.{unfit, within, eight, entry};
 
 // What stands at a machine address: an entry's value, or nothing of the image.
 pub enum Entry {
@@ -39,23 +39,19 @@ fn wide(x: u8) -> u64
     x as u64
 }
 
-// The four bytes from an offset on.
-fn four(s: &[u8], at: usize) -> u64
-    requires { ⌜ at + 4 ≤ length (now s) ⌝ }
-    ensures { λ r. ⌜ (r ≡ four (now (s .entry)) at) × (r < 2 ^ 32) ⌝ }
-{
-    wide(s[at])
-        + wide(s[at + 1]) * 0x100
-        + wide(s[at + 2]) * 0x1_0000
-        + wide(s[at + 3]) * 0x100_0000
-}
-
-// The eight bytes from an offset on. The compiler makes one load of it.
+// The eight bytes from an offset on. The compiler makes one load of it, also where it is inlined.
 fn load(s: &[u8], at: usize) -> u64
     requires { ⌜ at + 8 ≤ length (now s) ⌝ }
     ensures { λ r. ⌜ r ≡ eight (now (s .entry)) at ⌝ }
 {
-    four(s, at) + four(s, at + 4) * 0x1_0000_0000
+    wide(s[at])
+        | (wide(s[at + 1]) << 8)
+        | (wide(s[at + 2]) << 16)
+        | (wide(s[at + 3]) << 24)
+        | (wide(s[at + 4]) << 32)
+        | (wide(s[at + 5]) << 40)
+        | (wide(s[at + 6]) << 48)
+        | (wide(s[at + 7]) << 56)
 }
 
 // The entry at a machine address.
@@ -64,6 +60,28 @@ pub fn fetch(base: u64, bytes: &[u8], address: u64) -> Entry
 {
     if inside(base, bytes.len() as u64, address, 8) {
         return Entry::Value(load(bytes, (address - base) as usize));
+    }
+    Entry::Outside
+}
+
+// The first offset at which no entry stands.
+pub fn limit(len: u64) -> u64
+    ensures { λ r. ⌜ r ≡ len - 7 ⌝ }
+{
+    if len < 8 {
+        return 0;
+    }
+    len - 7
+}
+
+// The entry at a machine address, by one comparison: an address below the base wraps to an offset past the limit.
+pub fn fetch_below(base: u64, limit: u64, bytes: &[u8], address: u64) -> Entry
+    requires { ⌜ (base + length (now bytes) ≤ 2 ^ 56) × (limit ≡ length (now bytes) - 7) ⌝ }
+    ensures { λ r. ⌜ r ≡ entry base (now (bytes .entry)) address ⌝ }
+{
+    let offset = std::num::wrapping_sub_u64(address, base);
+    if offset < limit {
+        return Entry::Value(load(bytes, offset as usize));
     }
     Entry::Outside
 }

@@ -2,7 +2,7 @@
 use mathlib.Core.List.{List, [], _∷_, _++_}
 use Prim.Native.Nat.{ℕ}
 use Rattle.bits.specs.Field.{pick}
-use Rattle.stages.specs.declared.Read.{Read}
+use Rattle.stages.specs.Listed.{readWords}
 use Rattle.translate.specs.declared.Answer.{Answer}
 use Rattle.translate.specs.declared.Translated.{Translated}
 
@@ -12,11 +12,6 @@ answerWords (Answer.Address m) = 0 ∷ m .0 ∷ 0 ∷ 0 ∷ 0 ∷ 0 ∷ []
 answerWords (Answer.Refused number) = 2 ∷ number ∷ 0 ∷ 0 ∷ 0 ∷ 0 ∷ []
 answerWords (Answer.Fault f) = 1 ∷ f .cause ∷ f .value ∷ f .second ∷ f .word ∷ pick (f .flag) 1 0 ∷ []
 
--- The list's places, 4 words each: stage, level, machine address and value.
-abbrev pub readWords : List Read → List ℕ
-readWords [] = []
-readWords (r ∷ rs) = r .stage ∷ r .level ∷ r .address .0 ∷ r .value ∷ readWords rs
-
--- A translation's result, 67 words: the answer, the count, and the fifteen places of the list.
+-- A translation's result, 67 words: the answer, the count, and the fifteen places of the list, 4 words each.
 unfoldable pub translationWords : Translated → List ℕ
 translationWords t = answerWords (t .answer) ++ (t .count ∷ readWords (t .reads))

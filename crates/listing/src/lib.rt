@@ -1,16 +1,17 @@
 // The word layout of a translation: the kind of access by number, and the result written into a slice.
 ghost use mathlib.Core.Path.{_≡_};
 ghost use mathlib.Core.List.{_∷_, _++_};
-ghost use lib.ListN.{length, take, drop};
-ghost use Rattle.listing.specs.Listing.{answerWords, readWords, translationWords};
+ghost use lib.ListN.{length, drop};
+ghost use Rattle.listing.specs.Listing.{answerWords, translationWords};
+ghost use Rattle.translate.specs.Translated.{translated};
 ghost use Rattle.listing.specs.Taken.{kindOf, putKind};
+use hart::state::Hart;
 use rules::Kind;
-use stages::Read;
 use translate::Answer;
-use translate::Translated;
+use translate::Start;
 
 // The kind of access with a number.
-pub fn kind_of(n: u64) -> Kind
+fn kind_of(n: u64) -> Kind
     ensures { λ r. ⌜ r ≡ kindOf n ⌝ }
 {
     if n == 0 {
@@ -53,28 +54,47 @@ fn put_answer(a: Answer, count: u64, out: &mut [u64])
     out[6] = count;
 }
 
-// The list's places, after the first seven words.
-fn put_reads(reads: [Read; 15], out: &mut [u64])
+// The translation of an access into a slice of the right length: the list where it stands, then the answer before it.
+fn translate_into(
+    h: Hart,
+    base: u64,
+    bytes: &[u8],
+    kind: Kind,
+    address: u64,
+    width: u64,
+    out: &mut [u64],
+)
     requires { ⌜ length (now out) ≡ 67 ⌝ }
-    ensures { λ _. ⌜ now (out .exit) ≡ take 7 (now (out .entry)) ++ readWords reads ⌝ }
+    ensures { λ _. ⌜ now (out .exit) ≡ translationWords (translated h base (now (bytes .entry)) kind address width) ⌝ }
 {
-    let mut i: usize = 0;
-    while i < 15 {
-        let r = reads[i];
-        let address = r.address;
-        let at = 7 + 4 * i;
-        out[at] = r.stage;
-        out[at + 1] = r.level;
-        out[at + 2] = address.0;
-        out[at + 3] = r.value;
-        i += 1;
+    let s = translate::starts(h, base, bytes.len() as u64, kind, address, width);
+    match s {
+        Start::Answered(x) => {
+            engine::clear(7, 67, &mut *out);
+            put_answer(x, 0, &mut *out);
+        }
+        Start::Walks(a) => {
+            let w = engine::list(base, bytes, a, 15, 7, &mut *out);
+            let count = w.count;
+            let reached = w.reached;
+            put_answer(translate::answered(reached), count as u64, &mut *out);
+        }
     }
 }
 
-// Writes a translation's result and returns 0. Writes nothing and returns 1 where a length is wrong, that of the hart's slice
+// Translates, writes the result and returns 0. Writes nothing and returns 1 where a length is wrong, that of the hart's slice
 // (given) or the result's, else 2 where no kind of access has the number.
-pub fn put_translation(t: Translated, given: usize, kind: u64, out: &mut [u64]) -> u64
-    ensures { λ r. ⌜ (r, now (out .exit)) ≡ putKind given 67 kind (now (out .entry)) (translationWords t) ⌝ }
+pub fn put_translation(
+    h: Hart,
+    given: usize,
+    base: u64,
+    bytes: &[u8],
+    kind: u64,
+    address: u64,
+    width: u64,
+    out: &mut [u64],
+) -> u64
+    ensures { λ r. ⌜ (r, now (out .exit)) ≡ putKind given 67 kind (now (out .entry)) (translationWords (translated h base (now (bytes .entry)) (kindOf kind) address width)) ⌝ }
 {
     if given != 32 {
         return 1;
@@ -85,9 +105,6 @@ pub fn put_translation(t: Translated, given: usize, kind: u64, out: &mut [u64]) 
     if kind > 2 {
         return 2;
     }
-    let answer = t.answer;
-    let reads = t.reads;
-    put_answer(answer, t.count as u64, &mut *out);
-    put_reads(reads, &mut *out);
+    translate_into(h, base, bytes, kind_of(kind), address, width, &mut *out);
     0
 }

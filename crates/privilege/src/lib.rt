@@ -48,11 +48,11 @@ impl Context {
         (self.v == 1) & (self.privilege == 1)
     }
 
-    // The mode is one of the five.
+    // The mode is one of the five: U, HS, VU and VS, or M.
     pub fn is_among_five(self) -> bool
         ensures { λ r. ⌜ r ≡ amongFive self ⌝ }
     {
-        self.is_u() | (self.is_hs() | (self.is_m() | (self.is_vu() | self.is_vs())))
+        ((self.v < 2) & (self.privilege < 2)) | self.is_m()
     }
 
     // MPRV=1 outside M.

@@ -1,2 +1,3 @@
 pub mod Indices
 pub mod Judgements
+pub mod Masks

@@ -1,14 +1,12 @@
 // The rules of one page-table entry and of an address.
 ghost use mathlib.Core.Path.{_≡_};
-ghost use Prim.Native.Nat.{_+_, _-_, _^_, _<_, _≤_};
-ghost use mathlib.Core.Bool.{_||_};
-ghost use Rattle.bits.specs.Field.{get, pick};
+ghost use mathlib.Core.Bool.{true};
+ghost use Prim.Native.Nat.{_-_, _<_, _≤_};
+ghost use Rattle.bits.specs.Field.{get};
 ghost use Rattle.rules.specs.Kind.{by};
-ghost use Rattle.rules.specs.declared.Judgement.the-variants as Judgement;
-ghost use Rattle.rules.specs.Entry.{pointer, admitted, granted, malformed, badPointer, badLeaf, target, offset, judged};
+ghost use Rattle.rules.specs.Test.{testOf, Judges};
 ghost use Rattle.rules.specs.Address.{Stage, wellFormed, indexBits, index};
 use bits::Field;
-use bits::has;
 use bits::select;
 
 // The kinds of access.
@@ -33,20 +31,18 @@ pub enum Judgement {
     Bad,
 }
 
-// The bits of an entry.
-const V: u64 = 0;
+// What is asked of a leaf, as tests of its bits: those under a mask, and some of which it must have one.
+pub struct Test {
+    pub mask: u64,
+    pub bits: u64,
+    pub some: u64,
+}
 
-const R: u64 = 1;
+// V, R, W, X, U, A, D and bits 63:54: a pointer has V alone of these.
+const POINTER: u64 = 0xFFC0_0000_0000_00DF;
 
-const W: u64 = 2;
-
-const X: u64 = 3;
-
-const U: u64 = 4;
-
-const A: u64 = 6;
-
-const D: u64 = 7;
+// Bits 55:12, where a PPN times 4096 stands.
+const PAGE: u64 = 0xFF_FFFF_FFFF_F000;
 
 impl Kind {
     // The test that is this kind's own.
@@ -61,101 +57,45 @@ impl Kind {
     }
 }
 
-fn is_pointer(e: u64) -> bool
-    ensures { λ r. ⌜ r ≡ pointer e ⌝ }
-{
-    !(has(R, e) | has(X, e))
-}
-
-// Whether a rule that pointers and leaves share finds fault with an entry.
-fn is_malformed(e: u64) -> bool
-    ensures { λ r. ⌜ r ≡ malformed e ⌝ }
-{
-    let high = Field { low: 54, width: 10 };
-    !has(V, e) | (has(W, e) & !has(R, e)) | (high.get(e) != 0)
-}
-
-// The PPN times 4096.
-fn leads_to(e: u64) -> u64
-    ensures { λ r. ⌜ (r ≡ target e) × (r < 2 ^ 56) ⌝ }
-{
-    let ppn = Field { low: 10, width: 44 };
-    ppn.get(e) * 4096
-}
-
-// What a pointer is at its level.
-fn pointer(level: u64, e: u64) -> Judgement
-    ensures { λ r. ⌜ r ≡ pick (malformed e || badPointer level e) Judgement.Bad (Judgement.Pointer (target e)) ⌝ }
-{
-    if is_malformed(e) | (has(A, e) | has(D, e) | has(U, e) | (level == 0)) {
-        return Judgement::Bad;
-    }
-    Judgement::Pointer(leads_to(e))
-}
-
 impl Need {
-    // U and SUM.
-    fn admits(self, e: u64) -> bool
-        ensures { λ r. ⌜ r ≡ admitted self e ⌝ }
+    // V, A, a store's D, U and no bit of 63:54; R, W or X.
+    pub fn test(self) -> Test
+        ensures { λ r. ⌜ r ≡ testOf self ⌝ }
     {
         let kind = self.kind;
         let sum = self.sum;
-        let u = has(U, e);
-        if self.user {
-            return u;
+        let user = self.user;
+        let d = select(kind.test(false, false, true), 0x80, 0);
+        let u = select(user | !kind.test(false, sum, sum), 0x10, 0);
+        let load = select(self.mxr, 0x0A, 0x02);
+        let data = select(kind.test(false, true, false), load, 0x04);
+        Test {
+            mask: 0xFFC0_0000_0000_0041 | d | u,
+            bits: 0x41 | d | select(user, 0x10, 0),
+            some: select(kind.test(true, false, false), 0x08, data),
         }
-        !u | kind.test(false, sum, sum)
     }
+}
 
-    // R, W, X and MXR.
-    fn grants(self, e: u64) -> bool
-        ensures { λ r. ⌜ r ≡ granted self e ⌝ }
-    {
-        let kind = self.kind;
-        let x = has(X, e);
-        kind.test(x, has(R, e) | (x & self.mxr), has(W, e))
-    }
-
-    // Whether a rule finds fault with a leaf at a level.
-    fn rejects(self, level: u64, e: u64) -> bool
-        requires { ⌜ level < 5 ⌝ }
-        ensures { λ r. ⌜ r ≡ badLeaf self level e ⌝ }
-    {
-        let kind = self.kind;
-        let low = Field {
-            low: 10,
-            width: 9 * level,
-        };
-        (low.get(e) != 0)
-            | !has(A, e)
-            | kind.test(false, false, !has(D, e))
-            | !(self.admits(e) & self.grants(e))
-    }
-
-    // What a leaf yields for an address.
-    fn leaf(self, level: u64, address: u64, e: u64) -> Judgement
-        requires { ⌜ level < 5 ⌝ }
-        ensures { λ r. ⌜ r ≡ pick (malformed e || badLeaf self level e) Judgement.Bad (Judgement.Leaf (target e + get (offset level) address)) ⌝ }
-    {
-        if is_malformed(e) | self.rejects(level, e) {
-            return Judgement::Bad;
-        }
-        let offset = Field {
-            low: 0,
-            width: 12 + 9 * level,
-        };
-        Judgement::Leaf(leads_to(e) + offset.get(address))
-    }
-
+impl Test {
     // What an entry is at its level, and where it leads an address.
     pub fn judge(self, level: u64, address: u64, e: u64) -> Judgement
         requires { ⌜ level < 5 ⌝ }
-        ensures { λ r. ⌜ r ≡ judged self level address e ⌝ }
+        ensures { λ r. ⌜ Judges self level address e r ⌝ }
     {
-        if is_pointer(e) {
-            return pointer(level, e);
+        let page = (e << 2) & PAGE;
+        if e & POINTER == 1 {
+            if level == 0 {
+                return Judgement::Bad;
+            }
+            return Judgement::Pointer(page);
         }
-        self.leaf(level, address, e)
+        let low = (1u64 << (12 + 9 * level)) - 1;
+        let asked = (e & self.mask == self.bits) & (e & self.some != 0);
+        if asked & (e & 6 != 4) & (page & low == 0) {
+            return Judgement::Leaf(page + (address & low));
+        }
+        Judgement::Bad
     }
 }
 
@@ -171,40 +111,28 @@ pub fn index(level: u64, address: u64) -> u64
     nine.get(address)
 }
 
-// The index at the second stage's root, a table of 16 KiB: eleven bits.
-pub fn root_index(levels: u64, address: u64) -> u64
-    requires { ⌜ (0 < levels) × (levels ≤ 5) ⌝ }
-    ensures { λ r. ⌜ (r ≡ index Stage.second levels (levels - 1) address) × (r < 2048) ⌝ }
-{
-    let eleven = Field {
-        low: 12 + 9 * (levels - 1),
-        width: 11,
-    };
-    eleven.get(address)
-}
-
-// The first stage's test of an address's high bits.
+// The first stage's test of an address's high bits: with the bit below them they are all clear or all set.
 pub fn is_extended(levels: u64, address: u64) -> bool
     requires { ⌜ levels ≤ 5 ⌝ }
     ensures { λ r. ⌜ r ≡ wellFormed Stage.first levels address ⌝ }
 {
-    let low = 12 + 9 * levels;
-    let high = Field {
-        low: low,
-        width: 64 - low,
-    };
-    high.get(address) == select(has(low - 1, address), high.get(0xFFFF_FFFF_FFFF_FFFF), 0)
+    let low = 11 + 9 * levels;
+    let high = address >> low;
+    (high == 0) | (high == 0xFFFF_FFFF_FFFF_FFFF >> low)
 }
 
-// The second stage's test of an address's high bits.
+// The second stage's test of an address's high bits: none stands above the eleven of the root's index.
 pub fn is_small(levels: u64, address: u64) -> bool
-    requires { ⌜ levels ≤ 5 ⌝ }
+    requires { ⌜ (0 < levels) × (levels ≤ 5) ⌝ }
     ensures { λ r. ⌜ r ≡ wellFormed Stage.second levels address ⌝ }
 {
-    let low = 14 + 9 * levels;
-    let high = Field {
-        low: low,
-        width: 64 - low,
-    };
-    high.get(address) == 0
+    address >> (12 + 9 * (levels - 1)) < 2048
+}
+
+// The index at the second stage's root, a table of 16 KiB: all bits from there up, where the address passes that test.
+pub fn root_index(levels: u64, address: u64) -> u64
+    requires { ⌜ (0 < levels) × (levels ≤ 5) × (wellFormed Stage.second levels address ≡ true) ⌝ }
+    ensures { λ r. ⌜ (r ≡ index Stage.second levels (levels - 1) address) × (r < 2048) ⌝ }
+{
+    address >> (12 + 9 * (levels - 1))
 }

@@ -5,3 +5,4 @@ pub mod Images
 pub mod Offsets
 pub mod Guarded
 pub mod Raised
+pub mod Words

@@ -1,5 +1,5 @@
--- The list of reads in an array.
-use mathlib.Core.List.{List, _++_}
+-- The list of reads in an array, and as words.
+use mathlib.Core.List.{List, [], _∷_, _++_}
 use Prim.Native.Nat.{ℕ, _-_}
 use lib.ListN.{length, replicate}
 use Rattle.stages.specs.declared.Read.{Read}
@@ -17,3 +17,8 @@ unused n = replicate n (item 0 0 (machine 0) 0)
 -- reads in order, the rest of n places unused
 abbrev pub padded : ℕ → List Read → List Read
 padded n xs = xs ++ unused (n - length xs)
+
+-- The list's places as words, 4 each: stage, level, machine address and value.
+abbrev pub readWords : List Read → List ℕ
+readWords [] = []
+readWords (r ∷ rs) = r .stage ∷ r .level ∷ r .address .0 ∷ r .value ∷ readWords rs

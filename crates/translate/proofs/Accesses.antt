@@ -1,9 +1,10 @@
--- What an access that was not refused has, and what a walk's result makes of the answer. Assumes nothing.
-use mathlib.Core.Path.{_≡_, refl, sym, subst}
+-- What an access that was not refused has, and what the code finds before the walk. Assumes nothing.
+use mathlib.Core.Path.{_≡_, refl, sym, ap, subst}
 use mathlib.Core.Bool.{Bool, true, false, _||_, not}
 use mathlib.Core.List.{List}
-use Prim.Native.Nat.{ℕ, _%_, _^_, _<_, _≤_}
+use Prim.Native.Nat.{ℕ, _+_, _-_, _%_, _^_, _<_, _≤_}
 use native.Mathlib.Omega.{arith}
+use lib.Bits.{bitAnd, and-mask}
 use lib.Dec.{eqb}
 use lib.ListN.{length}
 use borrow.Author.Tests.{eqb-true, not-false}
@@ -15,24 +16,24 @@ use Rattle.registers.specs.Places.{satp, vsatp, hgatp}
 use Rattle.hart.specs.declared.state.Hart.{Hart}
 use Rattle.hart.specs.Hart.{reg, passes}
 use Rattle.image.specs.Image.{unfit}
+use Rattle.image.proofs.Tests.{fit}
 use Rattle.rules.specs.declared.Kind.{Kind}
 use Rattle.rules.specs.declared.Kind.the-variants.{Fetch, Load, Store}
 use Rattle.access.specs.declared.Access.{Access}
 use Rattle.access.specs.declared.Machine.{Machine}
 use Rattle.access.specs.declared.Root.{Root}
 use Rattle.access.specs.Faults.{misalignment}
-use Rattle.walk.specs.declared.Walked.{Walked}
-use Rattle.stages.specs.Tree.{bind, run}
-use Rattle.stages.specs.Stages.{Result, yields, faults, look, begin, final, walkOf}
-use Rattle.walk.specs.Walked.{reached, result, walked}
-use Rattle.walk.specs.Place.{Tables}
-use Rattle.translate.specs.declared.Answer.{Answer}
+use Rattle.stages.specs.Tree.{run}
+use Rattle.stages.specs.Stages.{Result, yields, faults, look, walkOf}
+use Rattle.engine.specs.Place.{Tables}
+use Rattle.engine.specs.Written.{reached, result}
 use Rattle.effective.specs.declared.Mode.{Mode}
-use Rattle.translate.specs.declared.Translated.{Translated}
 use Rattle.effective.specs.Effective.{effective, root, off, firstRoot, secondRoot, accessOf}
-use Rattle.translate.specs.declared.Stop.{Stop}
-use Rattle.translate.specs.declared.Stop.the-variants.{Refused, Misaligned, Walks}
-use Rattle.translate.specs.Stop.{stopOf, walks, onlyIf, answerOf}
+use Rattle.translate.specs.declared.Answer.{Answer}
+use Rattle.translate.specs.declared.Translated.{Translated}
+use Rattle.translate.specs.declared.Start.{Start}
+use Rattle.translate.specs.declared.Start.the-variants.{Answered, Walks}
+use Rattle.translate.specs.Start.{startOf}
 use Rattle.translate.specs.Translated.{known, unsupported, misaligned, answer, unwalked, walkedTo, translated}
 
 -- an access that is not refused has a known width
@@ -51,9 +52,11 @@ each-width P one two four eight width h = go (eqb width 1) (eqb width 2) (eqb wi
     go false false false true e f g i q = subst P (sym (eqb-true width 8 i)) eight
     go false false false false e f g i q = clash q
 
--- the remainder by a known width, as the code takes it
-pub remainder : (address width : ℕ) → known width ≡ true → pick (eqb width 8) (address % 8) (pick (eqb width 4) (address % 4) (pick (eqb width 2) (address % 2) 0)) ≡ address % width
-remainder address = each-width (λ (w : ℕ). pick (eqb w 8) (address % 8) (pick (eqb w 4) (address % 4) (pick (eqb w 2) (address % 2) 0)) ≡ address % w) (omega arith) refl refl refl
+-- a known width is a power of two: the remainder by it, as the code takes it
+pub powered : (address width : ℕ) → known width ≡ true → (1 ≤ width) × (bitAnd address (width - 1) ≡ address % width)
+powered address =
+    each-width (λ (w : ℕ). (1 ≤ w) × (bitAnd address (w - 1) ≡ address % w)) (omega arith, and-mask address 0) (omega arith, and-mask address 1)
+    (omega arith, and-mask address 2) (omega arith, and-mask address 3)
 
 -- an access that is neither refused nor misaligned is of 2 ^ k bytes, from a multiple of them on
 pub record Aligned (address width : ℕ) : Type 0 where
@@ -111,38 +114,55 @@ tables-of h kind address width =
     let s = second-three h (effective h kind) in
     (record { first = omega (arith, f .levels); second = omega (arith, s .levels); firstRoot = f .ppn; secondRoot = s .ppn }, f .levels, s .levels)
 
--- the tables of an access that walks only if it is not stopped
-pub tables-if : (goes : Bool) (a : Access) → Tables a × (a .first .levels ≤ 3) × (a .second .levels ≤ 3) → Tables (onlyIf goes a) × (onlyIf goes a .first .levels ≤ 3) × (onlyIf goes a .second .levels ≤ 3)
-tables-if true a h = h
-tables-if false a h = (record { first = omega arith; second = omega arith; firstRoot = omega arith; secondRoot = omega arith }, omega arith, omega arith)
-
-same-answer : (o : Result Machine) → answer (result (reached o)) ≡ answer o
+-- a walk's result gives the same answer as the code has it
+pub same-answer : (o : Result Machine) → answer (result (reached o)) ≡ answer o
 same-answer (yields m) = refl
 same-answer (faults f) = refl
 
--- what the code puts together is the translation
-module _ (h : Hart) (base : ℕ) (bytes : List ℕ) (kind : Kind) (address width : ℕ) (w : Walked) where
-  abbrev a : Access
-  a = accessOf h kind address width
+-- ---- what the code finds before the walk
 
-  abbrev put-together : Stop → Translated
-  put-together s = record { hart = h; answer = answerOf s a (result (w .reached)); reads = w .reads; count = w .count }
+module _ (h : Hart) (base : ℕ) (bytes : List ℕ) (kind : Kind) (address width : ℕ) where
+  abbrev accessed : Access
+  accessed = accessOf h kind address width
 
-  abbrev walk-of : Stop → Walked
-  walk-of s = walked (run (look base bytes) (walkOf base (length bytes) (onlyIf (walks s) a)))
+  abbrev starts : (b₁ b₂ b₃ b₄ : Bool) → Start
+  starts b₁ b₂ b₃ b₄ = pick b₁ (Answered (Answer.Refused 2)) (pick b₂ (Answered (Answer.Refused 1)) (pick b₃ (Answered (Answer.Refused 3)) (pick b₄ (Answered (Answer.Fault (misalignment accessed))) (Walks accessed))))
 
-  stopped : (s : Stop) (x : Answer) → walks s ≡ false → answerOf s a (result (w .reached)) ≡ x → w ≡ walk-of s → put-together s ≡ unwalked h x
-  unfolding walkOf final begin bind run
-  stopped s x n q e = rw (q, e, n)
+  abbrev settles : (b₁ b₂ b₃ b₄ : Bool) → Translated
+  settles b₁ b₂ b₃ b₄ =
+      pick b₁ (unwalked h (Answer.Refused 2)) (pick b₂ (unwalked h (Answer.Refused 1)) (pick b₃ (unwalked h (Answer.Refused 3)) (pick b₄ (unwalked h (Answer.Fault (misalignment accessed)))
+      (walkedTo h (run (look base bytes) (walkOf base (length bytes) accessed))))))
 
-  pub settled-by : w ≡ walk-of (stopOf h base (length bytes) kind address width) → put-together (stopOf h base (length bytes) kind address width) ≡ translated h base bytes kind address width
-  unfolding stopOf translated
-  settled-by = go (not (passes h)) (unfit base (length bytes)) (unsupported kind address width) (misaligned kind address width)
+  -- an answer, with an empty list
+  pub at-once : (x : Answer) → startOf h base (length bytes) kind address width ≡ Answered x → translated h base bytes kind address width ≡ unwalked h x
+  unfolding startOf translated
+  at-once x = go (not (passes h)) (unfit base (length bytes)) (unsupported kind address width) (misaligned kind address width)
     where
-      go : (b₁ b₂ b₃ b₄ : Bool) → let s : Stop = pick b₁ (Refused 2) (pick b₂ (Refused 1) (pick b₃ (Refused 3) (pick b₄ Misaligned Walks))) in
-          w ≡ walk-of s → put-together s ≡ pick b₁ (unwalked h (Answer.Refused 2)) (pick b₂ (unwalked h (Answer.Refused 1)) (pick b₃ (unwalked h (Answer.Refused 3)) (pick b₄ (unwalked h (Answer.Fault (misalignment a))) (walkedTo h (run (look base bytes) (walkOf base (length bytes) a))))))
-      go true b₂ b₃ b₄ e = stopped (Refused 2) _ refl refl e
-      go false true b₃ b₄ e = stopped (Refused 1) _ refl refl e
-      go false false true b₄ e = stopped (Refused 3) _ refl refl e
-      go false false false true e = stopped Misaligned _ refl refl e
-      go false false false false e = rw (e, same-answer (run (look base bytes) (walkOf base (length bytes) a) .end))
+      go : (b₁ b₂ b₃ b₄ : Bool) → starts b₁ b₂ b₃ b₄ ≡ Answered x → settles b₁ b₂ b₃ b₄ ≡ unwalked h x
+      go true b₂ b₃ b₄ e = let y : Answer.Refused 2 ≡ x = cc in ap (unwalked h) y
+      go false true b₃ b₄ e = let y : Answer.Refused 1 ≡ x = cc in ap (unwalked h) y
+      go false false true b₄ e = let y : Answer.Refused 3 ≡ x = cc in ap (unwalked h) y
+      go false false false true e = let y : Answer.Fault (misalignment accessed) ≡ x = cc in ap (unwalked h) y
+      go false false false false e = clash (cc)
+
+  -- an access to walk for
+  pub record Walking (a : Access) : Type 0 where
+    pub translates : translated h base bytes kind address width ≡ walkedTo h (run (look base bytes) (walkOf base (length bytes) a))
+    pub ends : base + length bytes ≤ 2 ^ 56
+    pub tables : Tables a
+    pub first : a .first .levels ≤ 3
+    pub second : a .second .levels ≤ 3
+
+  pub walking : (a : Access) → startOf h base (length bytes) kind address width ≡ Walks a → Walking a
+  unfolding startOf translated
+  walking a s = go (not (passes h)) (unfit base (length bytes)) (unsupported kind address width) (misaligned kind address width) refl s refl
+    where
+      go : (b₁ b₂ b₃ b₄ : Bool) → unfit base (length bytes) ≡ b₂ → starts b₁ b₂ b₃ b₄ ≡ Walks a → translated h base bytes kind address width ≡ settles b₁ b₂ b₃ b₄ → Walking a
+      go true b₂ b₃ b₄ u e r = clash (cc)
+      go false true b₃ b₄ u e r = clash (cc)
+      go false false true b₄ u e r = clash (cc)
+      go false false false true u e r = clash (cc)
+      go false false false false u e r =
+          let y : accessed ≡ a = cc in
+          let t = tables-of h kind address width in
+          rw (← y) (record { translates = r; ends = fit base (length bytes) u; tables = t .0; first = t .1; second = t .2 })

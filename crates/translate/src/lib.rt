@@ -1,16 +1,16 @@
 // The translation of an access on a hart: refusals, misalignment and the walk.
 ghost use mathlib.Core.Path.{_≡_};
 ghost use mathlib.Core.Bool.{true};
-ghost use Rattle.walk.specs.Walked.{result};
-ghost use Rattle.translate.specs.Stop.{stopOf, walks, onlyIf, answerOf};
-ghost use Rattle.translate.specs.Translated.{known, unsupported, misaligned, translated};
+ghost use Rattle.engine.specs.Written.{result};
+ghost use Rattle.translate.specs.Start.{startOf};
+ghost use Rattle.translate.specs.Translated.{known, unsupported, misaligned, answer, translated};
 use access::Access;
 use access::Machine;
+use engine::Reached;
 use exceptions::Exception;
 use hart::state::Hart;
 use rules::Kind;
 use stages::Read;
-use walk::Reached;
 
 pub enum Answer {
     Address(Machine),
@@ -18,11 +18,10 @@ pub enum Answer {
     Fault(Exception),
 }
 
-// What a translation comes to before its walk.
-pub enum Stop {
-    Refused(u64),
-    Misaligned,
-    Walks,
+// What a translation comes to before its walk: an answer with an empty list, or the access to walk for.
+pub enum Start {
+    Answered(Answer),
+    Walks(Access),
 }
 
 pub struct Translated {
@@ -41,83 +40,46 @@ fn refused(kind: Kind, address: u64, width: u64) -> bool
     !known | kind.test(fetch, false, false)
 }
 
-// Whether a load or store of a known width is misaligned. The remainder is taken by each width, since a division is slow.
+// Whether a load or store of a known width is misaligned. A known width is a power of two: its remainder is the bits below it.
 fn is_misaligned(kind: Kind, address: u64, width: u64) -> bool
     requires { ⌜ known width ≡ true ⌝ }
     ensures { λ r. ⌜ r ≡ misaligned kind address width ⌝ }
 {
-    let of2 = bits::select(width == 2, address % 2, 0);
-    let of4 = bits::select(width == 4, address % 4, of2);
-    let t = !(bits::select(width == 8, address % 8, of4) == 0);
+    let t = address & (width - 1) != 0;
     kind.test(false, t, t)
 }
 
 // The order of refusals, and misalignment.
-fn stops(h: Hart, base: u64, len: u64, kind: Kind, address: u64, width: u64) -> Stop
-    ensures { λ r. ⌜ r ≡ stopOf h base len kind address width ⌝ }
+pub fn starts(h: Hart, base: u64, len: u64, kind: Kind, address: u64, width: u64) -> Start
+    ensures { λ r. ⌜ r ≡ startOf h base len kind address width ⌝ }
 {
     if !h.passes() {
-        return Stop::Refused(2);
+        return Start::Answered(Answer::Refused(2));
     }
     if image::refused(base, len) {
-        return Stop::Refused(1);
+        return Start::Answered(Answer::Refused(1));
     }
     if refused(kind, address, width) {
-        return Stop::Refused(3);
+        return Start::Answered(Answer::Refused(3));
     }
+    let a = effective::access(h, kind, address, width);
     if is_misaligned(kind, address, width) {
-        return Stop::Misaligned;
+        return Start::Answered(Answer::Fault(a.misalignment()));
     }
-    Stop::Walks
+    Start::Walks(a)
 }
 
-fn walks(s: Stop) -> bool
-    ensures { λ r. ⌜ r ≡ walks s ⌝ }
+// The answer that a walk's end gives.
+pub fn answered(r: Reached) -> Answer
+    ensures { λ x. ⌜ x ≡ answer (result r) ⌝ }
 {
-    match s {
-        Stop::Walks => true,
-        Stop::Refused(_) => false,
-        Stop::Misaligned => false,
+    match r {
+        Reached::At(m) => Answer::Address(m),
+        Reached::Failed(f) => Answer::Fault(f),
     }
 }
 
-// The access, its stages off if it does not walk.
-fn only_if(goes: bool, a: Access) -> Access
-    ensures { λ r. ⌜ r ≡ onlyIf goes a ⌝ }
-{
-    if goes {
-        return a;
-    }
-    let kind = a.kind;
-    Access {
-        kind: kind,
-        address: a.address,
-        width: a.width,
-        v: a.v,
-        user: a.user,
-        sum: a.sum,
-        mxr: a.mxr,
-        mmxr: a.mmxr,
-        first: effective::bare(),
-        second: effective::bare(),
-    }
-}
-
-fn answered(s: Stop, a: Access, r: Reached) -> Answer
-    ensures { λ x. ⌜ x ≡ answerOf s a (result r) ⌝ }
-{
-    match s {
-        Stop::Refused(number) => Answer::Refused(number),
-        Stop::Misaligned => Answer::Fault(a.misalignment()),
-        Stop::Walks => match r {
-            Reached::At(m) => Answer::Address(m),
-            Reached::Failed(f) => Answer::Fault(f),
-        },
-    }
-}
-
-// The translation of an access: the hart as it was, the answer, and the entries read for it. One list is made, whatever the
-// answer: an access that is stopped walks nothing.
+// The translation of an access: the hart as it was, the answer, and the entries read for it.
 pub fn translate(
     h: Hart,
     base: u64,
@@ -128,15 +90,24 @@ pub fn translate(
 ) -> Translated
     ensures { λ r. ⌜ r ≡ translated h base (now (bytes .entry)) kind address width ⌝ }
 {
-    let s = stops(h, base, bytes.len() as u64, kind, address, width);
-    let a = effective::access(h, kind, address, width);
-    let w = walk::walk(base, bytes, only_if(walks(s), a));
-    let reads = w.reads;
-    let reached = w.reached;
-    Translated {
-        hart: h,
-        answer: answered(s, a, reached),
-        reads: reads,
-        count: w.count,
+    let s = starts(h, base, bytes.len() as u64, kind, address, width);
+    match s {
+        Start::Answered(x) => Translated {
+            hart: h,
+            answer: x,
+            reads: walk::none(),
+            count: 0,
+        },
+        Start::Walks(a) => {
+            let w = walk::walk(base, bytes, a);
+            let reads = w.reads;
+            let reached = w.reached;
+            Translated {
+                hart: h,
+                answer: answered(reached),
+                reads: reads,
+                count: w.count,
+            }
+        }
     }
 }

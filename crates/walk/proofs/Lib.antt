@@ -1,3 +1,1 @@
-pub mod Arrays
-pub mod Loops
-pub mod Places
+pub mod Packs

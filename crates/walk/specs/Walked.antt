@@ -1,21 +1,22 @@
 -- What the walk hands over: its end, and the list of reads in an array, with their count.
+use mathlib.Core.List.{List, [], _∷_}
+use Prim.Native.Nat.{ℕ}
 use lib.ListN.{length}
 use Rattle.access.specs.declared.Machine.{Machine}
-use Rattle.stages.specs.Tree.{Ran}
-use Rattle.stages.specs.Stages.{Result, yields, faults}
+use Rattle.stages.specs.declared.Read.{Read}
+use Rattle.stages.specs.Tree.{Ran, item}
+use Rattle.stages.specs.Stages.{Result, machine}
 use Rattle.stages.specs.Listed.{places, padded}
-use Rattle.walk.specs.declared.Reached.{Reached}
-use Rattle.walk.specs.declared.Reached.the-variants.{At, Failed}
+use Rattle.engine.specs.Written.{reached}
 use Rattle.walk.specs.declared.Walked.{Walked}
-
--- a walk's result as the code has it, and back
-abbrev pub reached : Result Machine → Reached
-reached (yields m) = At m
-reached (faults f) = Failed f
-
-abbrev pub result : Reached → Result Machine
-result (At m) = yields m
-result (Failed f) = faults f
 
 abbrev pub walked : Ran (Result Machine) → Walked
 walked r = record { reads = padded places (r .reads); count = length (r .reads); reached = reached (r .end) }
+
+-- the list that words hold, four to a read
+unfoldable pub unpack : List ℕ → List Read
+unpack [] = []
+unpack (s ∷ []) = []
+unpack (s ∷ l ∷ []) = []
+unpack (s ∷ l ∷ m ∷ []) = []
+unpack (s ∷ l ∷ m ∷ v ∷ ws) = item s l (machine m) v ∷ unpack ws

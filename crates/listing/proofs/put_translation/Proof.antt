@@ -1,12 +1,7 @@
-use mathlib.Core.Path.{ap}
-use mathlib.Core.List.{List}
-use Prim.Native.Nat.{ℕ}
 use borrow.Author.Needs.{needs}
 use borrow.Author.Tests.{lt-ltb, le-ltb}
-use Rattle.listing.specs.Listing.{translationWords}
-use Rattle.listing.specs.Taken.{putKind}
 use Rattle.layout.proofs.Lengths.{hart-wrong, out-wrong, both-fit}
-use Rattle.listing.proofs.Words.{translation-written}
+use Rattle.listing.specs.Taken.{putKind}
 use Rattle.listing.proofs.put_translation.Statement.{statement}
 use Rattle.listing.proofs.put_translation.Tie as tie
 
@@ -23,16 +18,9 @@ unfolding putKind
 returns-3 c = rw (both-fit _ _ 67 (c .before .before .if1 .left) (c .before .if2 .left), lt-ltb _ _ (c .if3 .taken))
 
 returns-4 : tie.Need-returns-4
-unfolding putKind translationWords
+unfolding putKind
 returns-4 c =
-    let a = c .before .before .before .before .before .before .before .before .before .before .before .before .before .args in
-    rw (
-      both-fit _ _ 67 (c .before .before .before .before .before .before .before .before .before .before .before .if1 .left) (c .before .before .before .before .before .before .before .before .before .before .if2 .left),
-      le-ltb _ _ (c .before .before .before .before .before .before .before .before .before .if3 .left),
-      c .before .before .put-reads .ensures,
-      c .before .before .before .before .before .before .put-answer .ensures,
-    )
-    (ap (λ (ws : List ℕ). (0, ws)) (translation-written (a .t .answer) _ _ _))
+    rw (both-fit _ _ 67 (c .before .before .before .before .before .before .before .if1 .left) (c .before .before .before .before .before .before .if2 .left), le-ltb _ _ (c .before .before .before .before .before .if3 .left), c .before .before .translate-into .ensures, c .before .before .before .before .kind-of .ensures)
 
 pub put-translation-spec : {M : Type 1} → statement M
 put-translation-spec = tie.close (tie.spec returns returns-2 returns-3 (λ c κs. search needs) (λ c κs. search needs) (λ c. search needs) returns-4)

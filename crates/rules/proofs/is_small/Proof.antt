@@ -1,11 +1,10 @@
-use Rattle.rules.specs.Address.{small}
+use Rattle.rules.proofs.Indices.{small-code}
 use borrow.Author.Needs.{needs}
 use Rattle.rules.proofs.is_small.Statement.{statement}
 use Rattle.rules.proofs.is_small.Tie as tie
 
 returns : tie.Need-returns
-unfolding small
-returns c = rw (c .get .ensures)
+returns c = small-code (c .args .levels) (c .args .address) (c .pre .0) (c .pre .1) (search needs)
 
 pub is-small-spec : {M : Type 1} → statement M
-is-small-spec = tie.close (tie.spec (λ c. search needs) (λ c. search needs) (λ c. search needs) (λ c κs. search needs) returns)
+is-small-spec = tie.close (tie.spec (λ c. search needs) (λ c. search needs) (λ c. search needs) (λ c. search needs) returns)

@@ -5,5 +5,5 @@ pub balcumentri-translate-spec : {M : Type 1} → statement M
 balcumentri-translate-spec =
     tie.close
     (tie.spec
-    (λ c κs. tt) (λ c κs. tt) (λ c κs. tt) (λ c κs. tt) (λ c. c .before .before .put-translation .kept .1 .1 .1 .0)
-    (λ c. rw (c .before .before .put-translation .ensures, c .before .before .before .before .translate .ensures, c .before .before .before .before .before .hart-of .ensures, c .before .before .before .before .before .before .kind-of .ensures)))
+    (λ c κs. tt) (λ c κs. tt) (λ c. c .before .before .put-translation .kept .1 .1 .1 .1 .1 .1 .1 .0)
+    (λ c. rw (c .before .before .put-translation .ensures, c .before .before .before .before .hart-of .ensures)))

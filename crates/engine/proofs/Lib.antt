@@ -1,0 +1,5 @@
+pub mod Runs
+pub mod Zeros
+pub mod Descents
+pub mod Walks
+pub mod Places

@@ -1,0 +1,160 @@
+use mathlib.Core.Path.{_≡_, sym, _∙_}
+use Prim.Native.Nat.{_+_, _-_, _<_, _≤_}
+use native.Mathlib.Omega.{arith}
+use lib.Dec.{eqb}
+use lib.ListN.{length}
+use denote.Ref.{now}
+use borrow.Author.Needs.{needs}
+use borrow.Author.Tests.{eqb-true}
+use Rattle.bits.proofs.Bools.{and-left, and-right}
+use Rattle.image.specs.declared.Entry.the-variants.{Value}
+use Rattle.rules.specs.Entry.{judged}
+use Rattle.rules.proofs.Judgements.{pointer-bounds}
+use Rattle.access.specs.declared.Machine.{Machine}
+use Rattle.access.specs.Needs.{firstNeed}
+use Rattle.stages.specs.Stages.{yields, look}
+use Rattle.engine.specs.Written.{result}
+use Rattle.engine.proofs.Descents.{off}
+use Rattle.engine.proofs.Walks.{Walks, Arrives, astray, start, arrives, failed, finished, has-room, outside, bad, leaf, further}
+use Rattle.engine.proofs.walk_into.Statement.{statement}
+use Rattle.engine.proofs.walk_into.Tie as tie
+
+abbrev Inv-loop : tie.InvT-loop
+Inv-loop base bytes a from out₀ len limit address next₀ left₀ guest₀ t out next left guest = Walks (look base bytes) base (length bytes) a out₀ from out next left guest
+
+abbrev μ-loop : tie.MeasureT-loop
+μ-loop base bytes a from out₀ len limit address next₀ left₀ guest₀ t out next left guest = left
+
+returns : tie.Need-returns Inv-loop μ-loop
+returns c =
+    let a = c .before .before .before .before .before .before .before .args in
+    rw (c .page-fault .ensures) (astray (look (a .base) (now (a .bytes))) (a .base) (length (now (a .bytes))) (a .a) (now (a .out)) (a .from) (sym (c .before .before .strays .ensures) ∙ c .before .if1 .taken))
+
+-- where the walk begins
+begins : (s : tie.After-start Inv-loop μ-loop) → let a = s .before .before .before .before .before .before .before .args in
+    Walks (look (a .base) (now (a .bytes))) (a .base) (length (now (a .bytes))) (a .a) (now (a .out)) (a .from) (now (a .out)) (a .from) (a .a .first .levels) (s .start .result)
+begins s =
+    let a = s .before .before .before .before .before .before .before .args in
+    rw (s .start .ensures) (start (look (a .base) (now (a .bytes))) (a .base) (length (now (a .bytes))) (a .a) (now (a .out)) (a .from) (sym (s .before .before .strays .ensures) ∙ s .before .if1 .left) (s .before .before .before .before .before .before .before .pre .2))
+
+-- neither stage is on
+returns-2 : tie.Need-returns-2 Inv-loop μ-loop
+returns-2 c =
+    let a = c .before .before .before .before .before .before .before .before .before .before .before .before .args in
+    let L = look (a .base) (now (a .bytes)) in
+    let N = length (now (a .bytes)) in
+    let g = c .before .before .before .before .before .start .result in
+    let f = eqb (a .a .first .levels) 0 in
+    let s = eqb (a .a .second .levels) 0 in
+    rw (c .conclude .ensures, c .before .passed .ensures)
+    (finished L (a .base) N (a .a) (now (a .out)) (a .from) (now (a .out)) (a .from) (a .a .first .levels) _
+    (arrives L (a .base) N (a .a) (now (a .out)) (a .from) (now (a .out)) (a .from) (a .a .first .levels) g (begins (c .before .before .before .before .before)) (now (a .out)) (a .from) _
+    (off L (a .a) (a .a .first .levels) g (now (a .out)) (a .from) (eqb-true _ _ (and-right f s (c .before .before .if2 .taken)))))
+    (eqb-true _ _ (and-left f s (c .before .before .if2 .taken))))
+
+loop-holds : tie.Need-loop-holds Inv-loop μ-loop
+loop-holds c = begins (c .before .before .before .before .before)
+
+second-requires : tie.Need-second-requires Inv-loop μ-loop
+second-requires c κs = (c .before .before .before .before .before .before .before .before .before .before .before .before .before .before .pre .0, c .before .before .before .before .before .before .before .before .before .before .before .limit .ensures, c .before .before .before .before .before .before .before .before .before .before .before .before .before .before .pre .1, omega (arith, c .before .loop .inv .room))
+
+-- after the second stage
+arrival : (s : tie.After-second Inv-loop μ-loop) → let a = s .before .before .before .before .before .before .before .before .before .before .before .before .before .before .before .args in
+    Arrives (look (a .base) (now (a .bytes))) (a .base) (length (now (a .bytes))) (a .a) (now (a .out)) (a .from) (s .second .last .1 .1 .1 .1 .1 .1 .1 .0) (s .second .result .next) (s .before .before .loop .left) (result (s .second .result .reached))
+arrival s =
+    let a = s .before .before .before .before .before .before .before .before .before .before .before .before .before .before .before .args in
+    let l = s .before .before .loop in
+    arrives (look (a .base) (now (a .bytes))) (a .base) (length (now (a .bytes))) (a .a) (now (a .out)) (a .from) (l .out) (l .next) (l .left) (l .guest) (l .inv) (s .second .last .1 .1 .1 .1 .1 .1 .1 .0) (s .second .result .next) _ (s .second .ensures)
+
+returns-3 : tie.Need-returns-3 Inv-loop μ-loop
+returns-3 c =
+    let a = c .before .before .before .before .before .before .before .before .before .before .before .before .before .before .before .before .before .before .before .args in
+    let s = c .before .before .before .before in
+    rw (c .enum-told .given .1)
+    (failed (look (a .base) (now (a .bytes))) (a .base) (length (now (a .bytes))) (a .a) (now (a .out)) (a .from) _ (s .second .result .next) (s .before .before .loop .left) (c .enum-told .given .0 .0) (rw (c .enum-told .given .1) at (arrival s)))
+
+-- at a machine address
+reached : (r : tie.After-reached Inv-loop μ-loop) → let a = r .before .before .before .before .before .before .before .before .before .before .before .before .before .before .before .before .before .before .before .args in
+    Arrives (look (a .base) (now (a .bytes))) (a .base) (length (now (a .bytes))) (a .a) (now (a .out)) (a .from) (r .before .before .before .before .second .last .1 .1 .1 .1 .1 .1 .1 .0) (r .before .before .before .before .second .result .next) (r .before .before .before .before .before .before .loop .left) (yields (r .reached .given .0 .0))
+reached r = rw (r .reached .given .1) at (arrival (r .before .before .before .before))
+
+returns-4 : tie.Need-returns-4 Inv-loop μ-loop
+returns-4 c =
+    let a = c .before .before .before .before .before .before .before .before .before .before .before .before .before .before .before .before .before .before .before .before .before .before .args in
+    rw (c .conclude2 .ensures)
+    (finished (look (a .base) (now (a .bytes))) (a .base) (length (now (a .bytes))) (a .a) (now (a .out)) (a .from) _ (c .before .before .before .before .before .before .before .second .result .next) (c .before .before .before .before .before .before .before .before .before .loop .left) (c .before .before .before .reached .given .0 .0) (reached (c .before .before .before)) (c .before .if3 .taken))
+
+fetch-below-requires : tie.Need-fetch-below-requires Inv-loop μ-loop
+fetch-below-requires c κs = (c .before .before .before .before .before .before .before .before .before .before .before .before .before .before .before .before .before .before .before .before .before .pre .0, c .before .before .before .before .before .before .before .before .before .before .before .before .before .before .before .before .before .before .limit .ensures)
+
+returns-5 : tie.Need-returns-5 Inv-loop μ-loop
+returns-5 c =
+    let a = c .before .before .before .before .before .before .before .before .before .before .before .before .before .before .before .before .before .before .before .before .before .before .before .before .before .args in
+    rw (c .access-fault .ensures)
+    (outside (look (a .base) (now (a .bytes))) (a .base) (length (now (a .bytes))) (a .a) (now (a .out)) (a .from) _ (c .before .before .before .before .before .before .before .before .before .before .second .result .next) (c .before .before .before .before .before .before .before .before .before .before .before .before .loop .left) (c .before .before .before .before .before .before .reached .given .0 .0) (reached (c .before .before .before .before .before .before)) (omega (arith, c .before .before .before .before .if3 .left)) (sym (c .before .before .before .fetch-below .ensures) ∙ c .before .enum-told2 .given .1))
+
+-- a read's words fit
+room : (e : tie.After-e Inv-loop μ-loop) → e .before .before .before .before .before .before .before .before .before .second .result .next + 4 ≤ length (e .before .before .before .before .before .before .before .before .before .second .last .1 .1 .1 .1 .1 .1 .1 .0)
+room e =
+    let a = e .before .before .before .before .before .before .before .before .before .before .before .before .before .before .before .before .before .before .before .before .before .before .before .before .args in
+    has-room (look (a .base) (now (a .bytes))) (a .base) (length (now (a .bytes))) (a .a) (now (a .out)) (a .from) _ (e .before .before .before .before .before .before .before .before .before .second .result .next) (e .before .before .before .before .before .before .before .before .before .before .before .loop .left) (e .before .before .before .before .before .reached .given .0 .0) (reached (e .before .before .before .before .before)) (omega (arith, e .before .before .before .if3 .left))
+
+put-requires : tie.Need-put-requires Inv-loop μ-loop
+put-requires c κs = omega (arith, room (c .before .before))
+
+add-next : tie.Need-add-next Inv-loop μ-loop
+add-next c = omega (arith, room (c .before .before .before .before .before), arrival (c .before .before .before .before .before .before .before .before .before .before .before .before .before .before) .size, c .before .before .before .before .before .before .before .before .before .before .before .before .before .before .before .before .before .before .before .before .before .before .before .before .before .before .before .before .before .good .1 .1 .1 .1 .0)
+
+judge-requires : tie.Need-judge-requires Inv-loop μ-loop
+judge-requires c κs = omega (arith, c .before .before .before .before .before .before .before .before .before .before .before .before .before .before .before .before .loop .inv .depth, c .before .before .before .before .before .before .before .before .before .before .before .before .before .before .before .before .before .before .before .before .before .before .before .before .before .before .before .before .before .pre .1 .first, c .before .before .before .before .before .before .before .before .if3 .left)
+
+-- the entry that is judged, and what it is
+seen : (q : tie.After-judge Inv-loop μ-loop) → let a = q .before .before .before .before .before .before .before .before .before .before .before .before .before .before .before .before .before .before .before .before .before .before .before .before .before .before .before .before .before .before .args in look (a .base) (now (a .bytes)) (q .before .before .before .before .before .before .before .before .before .before .before .reached .given .0 .0) ≡ Value (q .before .before .before .before .before .before .e .given .0 .0)
+seen q = sym (q .before .before .before .before .before .before .before .before .fetch-below .ensures) ∙ q .before .before .before .before .before .before .e .given .1
+
+judgement : (q : tie.After-judge Inv-loop μ-loop) → let a = q .before .before .before .before .before .before .before .before .before .before .before .before .before .before .before .before .before .before .before .before .before .before .before .before .before .before .before .before .before .before .args in judged (firstNeed (a .a)) (q .before .before .before .before .before .before .before .before .before .before .before .before .before .before .before .before .before .loop .left - 1) (a .a .address) (q .before .before .before .before .before .before .e .given .0 .0) ≡ q .judge .result
+judgement q = sym (q .judge .ensures _ (rw (q .before .before .before .before .before .before .before .before .before .before .before .before .before .before .before .before .before .before .before .first-need .ensures) at (q .before .before .before .before .before .before .before .before .before .before .before .before .before .before .before .before .before .before .test .ensures)))
+
+returns-6 : tie.Need-returns-6 Inv-loop μ-loop
+returns-6 c =
+    let a = c .before .before .before .before .before .before .before .before .before .before .before .before .before .before .before .before .before .before .before .before .before .before .before .before .before .before .before .before .before .before .before .before .before .args in
+    rw (c .page-fault2 .ensures, c .before .before .before .before .before .before .put .ensures)
+    (bad (look (a .base) (now (a .bytes))) (a .base) (length (now (a .bytes))) (a .a) (now (a .out)) (a .from) _ (c .before .before .before .before .before .before .before .before .before .before .before .before .before .before .before .before .before .before .second .result .next) (c .before .before .before .before .before .before .before .before .before .before .before .before .before .before .before .before .before .before .before .before .loop .left) (c .before .before .before .before .before .before .before .before .before .before .before .before .before .before .reached .given .0 .0) (reached (c .before .before .before .before .before .before .before .before .before .before .before .before .before .before)) (omega (arith, c .before .before .before .before .before .before .before .before .before .before .before .before .if3 .left)) _ (seen (c .before .before .before)) (judgement (c .before .before .before) ∙ c .before .enum-told3 .given .1))
+
+loop-less : tie.Need-loop-less Inv-loop μ-loop
+loop-less c = omega (arith, c .before .before .before .before .before .before .before .before .before .before .before .before .if3 .left)
+
+loop-again : tie.Need-loop-again Inv-loop μ-loop
+loop-again c =
+    let a = c .before .before .before .before .before .before .before .before .before .before .before .before .before .before .before .before .before .before .before .before .before .before .before .before .before .before .before .before .before .before .before .before .before .args in
+    rw (c .before .before .before .before .before .before .put .ensures)
+    (leaf (look (a .base) (now (a .bytes))) (a .base) (length (now (a .bytes))) (a .a) (now (a .out)) (a .from) _ (c .before .before .before .before .before .before .before .before .before .before .before .before .before .before .before .before .before .before .second .result .next) (c .before .before .before .before .before .before .before .before .before .before .before .before .before .before .before .before .before .before .before .before .loop .left) (c .before .before .before .before .before .before .before .before .before .before .before .before .before .before .reached .given .0 .0) (reached (c .before .before .before .before .before .before .before .before .before .before .before .before .before .before)) (omega (arith, c .before .before .before .before .before .before .before .before .before .before .before .before .if3 .left)) _ (seen (c .before .before .before)) _ (judgement (c .before .before .before) ∙ c .before .j .given .1))
+
+sub-index : tie.Need-sub-index Inv-loop μ-loop
+sub-index c = omega (arith, pointer-bounds _ _ _ _ _ (judgement (c .before .before .before) ∙ c .before .j2 .given .1) .0)
+
+index-requires : tie.Need-index-requires Inv-loop μ-loop
+index-requires c κs = omega (arith, c .before .before .before .before .before .before .before .before .before .before .before .before .before .before .before .before .before .before .before .before .loop .inv .depth, c .before .before .before .before .before .before .before .before .before .before .before .before .before .before .before .before .before .before .before .before .before .before .before .before .before .before .before .before .before .before .before .before .before .pre .1 .first)
+
+add-t48 : tie.Need-add-t48 Inv-loop μ-loop
+add-t48 c = omega (arith, pointer-bounds _ _ _ _ _ (judgement (c .before .before .before .before) ∙ c .before .before .j2 .given .1) .1, c .index .ensures .1)
+
+loop-less-2 : tie.Need-loop-less-2 Inv-loop μ-loop
+loop-less-2 c = omega (arith, c .before .before .before .before .before .before .before .before .before .before .before .before .before .if3 .left)
+
+loop-again-2 : tie.Need-loop-again-2 Inv-loop μ-loop
+loop-again-2 c =
+    let a = c .before .before .before .before .before .before .before .before .before .before .before .before .before .before .before .before .before .before .before .before .before .before .before .before .before .before .before .before .before .before .before .before .before .before .args in
+    rw (c .before .before .before .before .before .before .before .put .ensures)
+    (further (look (a .base) (now (a .bytes))) (a .base) (length (now (a .bytes))) (a .a) (now (a .out)) (a .from) _ (c .before .before .before .before .before .before .before .before .before .before .before .before .before .before .before .before .before .before .before .second .result .next) (c .before .before .before .before .before .before .before .before .before .before .before .before .before .before .before .before .before .before .before .before .before .loop .left) (c .before .before .before .before .before .before .before .before .before .before .before .before .before .before .before .reached .given .0 .0) (reached (c .before .before .before .before .before .before .before .before .before .before .before .before .before .before .before)) (omega (arith, c .before .before .before .before .before .before .before .before .before .before .before .before .before .if3 .left)) _ (seen (c .before .before .before .before)) _ (judgement (c .before .before .before .before) ∙ c .before .before .j2 .given .1) (c .index .result) (c .index .ensures .0))
+
+pub walk-into-spec : {M : Type 1} → statement M
+walk-into-spec =
+    tie.close
+    (tie.spec
+    Inv-loop μ-loop (λ c κs. search needs) (λ c κs. search needs) (λ c κs. search needs) returns (λ c κs. search needs) (λ c κs. search needs)
+    (λ c κs. search needs) returns-2 (λ c κs. search needs) (λ c κs. search needs) loop-holds second-requires (λ c. search needs) (λ c. search needs)
+    (λ c. search needs) returns-3 (λ c κs. search needs) (λ c. search needs) returns-4 fetch-below-requires (λ c. search needs) (λ c. search needs)
+    (λ c κs. search needs) (λ c. search needs) returns-5 (λ c. search needs) put-requires add-next judge-requires (λ c. search needs)
+    (λ c κs. search needs) (λ c. search needs) returns-6 (λ c. search needs) loop-less loop-again (λ c. search needs) sub-index index-requires
+    (λ c. search needs) add-t48 loop-less-2 loop-again-2)

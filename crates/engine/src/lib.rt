@@ -1,0 +1,283 @@
+// The walk of an access through both stages, its list of reads written as words where the caller wants it.
+ghost use mathlib.Core.Path.{_≡_};
+ghost use Prim.Native.Nat.{_+_, _-_, _*_, _^_, _≤_};
+ghost use lib.ListN.{length, replicate};
+ghost use lib.Seq.{sets};
+ghost use Rattle.rules.specs.Test.{testOf};
+ghost use Rattle.stages.specs.Tree.{run};
+ghost use Rattle.stages.specs.Stages.{machine, look, translation, walkOf, last};
+ghost use Rattle.engine.specs.declared.Reached.the-variants as Reached;
+ghost use Rattle.engine.specs.Words.{onto, stored, into};
+ghost use Rattle.engine.specs.Place.{needAt, faultAt, second-at, reach, startGuest, strays, Tables};
+ghost use Rattle.engine.specs.Written.{result, Written};
+use access::Access;
+use access::Guest;
+use access::Machine;
+use exceptions::Exception;
+use image::Entry;
+use image::fetch_below;
+use rules::Judgement;
+use rules::Test;
+
+// How a stage, and the whole walk, ends.
+pub enum Reached {
+    At(Machine),
+    Failed(Exception),
+}
+
+// What a stage or the walk came to, and the index behind the words of its reads.
+pub struct Progress {
+    pub next: usize,
+    pub reached: Reached,
+}
+
+// What a walk comes to: how many reads stand in the list, and its end.
+pub struct Listed {
+    pub count: usize,
+    pub reached: Reached,
+}
+
+// One read's words, from an index on.
+fn put(out: &mut [u64], next: usize, stage: u64, level: u64, at: u64, e: u64)
+    requires { ⌜ next + 4 ≤ length (now out) ⌝ }
+    ensures { λ _. ⌜ now (out .exit) ≡ stored (now (out .entry)) next stage level at e ⌝ }
+{
+    out[next] = stage;
+    out[next + 1] = level;
+    out[next + 2] = at;
+    out[next + 3] = e;
+}
+
+// What the second stage asks of a leaf, with so many first-stage levels left.
+fn test(a: Access, left: u64) -> Test
+    ensures { λ r. ⌜ r ≡ testOf (needAt a left) ⌝ }
+{
+    if left == 0 {
+        return a.second_need().test();
+    }
+    access::entry_need().test()
+}
+
+// The second stage's fault, with so many first-stage levels left.
+fn fault(a: Access, left: u64, guest: Guest) -> Exception
+    ensures { λ r. ⌜ r ≡ faultAt a left guest ⌝ }
+{
+    if left == 0 {
+        return a.guest_page_fault(guest);
+    }
+    a.entry_fault(guest)
+}
+
+// The second stage where it is off: it passes the address on.
+fn passed(guest: Guest) -> Machine
+    ensures { λ r. ⌜ r ≡ machine (guest .0) ⌝ }
+{
+    Machine(guest.0)
+}
+
+// The second stage over a guest address, with so many first-stage levels left; its reads go into out, from an index on.
+fn second(
+    base: u64,
+    limit: u64,
+    bytes: &[u8],
+    a: Access,
+    left: u64,
+    guest: Guest,
+    from: usize,
+    out: &mut [u64],
+) -> Progress
+    requires { ⌜ (base + length (now bytes) ≤ 2 ^ 56) × (limit ≡ length (now bytes) - 7) × Tables a × (from + 4 * (a .second .levels) ≤ length (now out)) ⌝ }
+    ensures { λ r. ⌜ onto (now (out .exit)) (r .next) (result (r .reached)) ≡ into (look base (now (bytes .entry))) (translation (second-at a left guest)) (now (out .entry)) from ⌝ }
+{
+    let tables = a.second;
+    let levels = tables.levels;
+    let address = guest.0;
+    let mut next = from;
+    if levels == 0 {
+        return Progress {
+            next: next,
+            reached: Reached::At(passed(guest)),
+        };
+    }
+    if !rules::is_small(levels, address) {
+        return Progress {
+            next: next,
+            reached: Reached::Failed(fault(a, left, guest)),
+        };
+    }
+    let t = test(a, left);
+    let mut level = levels - 1;
+    let mut at = tables.ppn * 4096 + 8 * rules::root_index(levels, address);
+    loop {
+        let Entry::Value(e) = fetch_below(base, limit, bytes, at) else {
+            return Progress {
+                next: next,
+                reached: Reached::Failed(a.access_fault()),
+            };
+        };
+        put(&mut *out, next, 2, level, at, e);
+        next = next + 4;
+        let j = t.judge(level, address, e);
+        match j {
+            Judgement::Bad => {
+                return Progress {
+                    next: next,
+                    reached: Reached::Failed(fault(a, left, guest)),
+                };
+            }
+            Judgement::Leaf(x) => {
+                return Progress {
+                    next: next,
+                    reached: Reached::At(Machine(x)),
+                };
+            }
+            Judgement::Pointer(table) => {
+                level = level - 1;
+                at = table + 8 * rules::index(level, address);
+            }
+        }
+    }
+}
+
+// Whether a first stage that is on finds fault with the address.
+fn strays(a: Access) -> bool
+    requires { ⌜ Tables a ⌝ }
+    ensures { λ r. ⌜ r ≡ strays a ⌝ }
+{
+    let tables = a.first;
+    let levels = tables.levels;
+    if levels == 0 {
+        return false;
+    }
+    !rules::is_extended(levels, a.address)
+}
+
+// The first guest address: of the first stage's root entry, or the access's own.
+fn start(a: Access) -> Guest
+    requires { ⌜ Tables a ⌝ }
+    ensures { λ r. ⌜ r ≡ startGuest a ⌝ }
+{
+    let tables = a.first;
+    let levels = tables.levels;
+    let address = a.address;
+    if levels == 0 {
+        return Guest(address);
+    }
+    Guest(tables.ppn * 4096 + 8 * rules::index(levels - 1, address))
+}
+
+// The end of the walk: the whole access must lie in the image.
+fn conclude(base: u64, len: u64, a: Access, m: Machine) -> Reached
+    ensures { λ r. ⌜ result r ≡ last base len a m ⌝ }
+{
+    if image::inside(base, len, m.0, a.width) {
+        return Reached::At(m);
+    }
+    Reached::Failed(a.access_fault())
+}
+
+// The walk of an access; its reads go into out, from an index on.
+fn walk_into(base: u64, bytes: &[u8], a: Access, from: usize, out: &mut [u64]) -> Progress
+    requires { ⌜ (base + length (now bytes) ≤ 2 ^ 56) × Tables a × (from + 4 * reach a (a .first .levels) ≤ length (now out)) ⌝ }
+    ensures { λ r. ⌜ onto (now (out .exit)) (r .next) (result (r .reached)) ≡ into (look base (now (bytes .entry))) (walkOf base (length (now (bytes .entry))) a) (now (out .entry)) from ⌝ }
+{
+    let len = bytes.len() as u64;
+    let limit = image::limit(len);
+    let address = a.address;
+    let tables = a.first;
+    let mut next = from;
+    if strays(a) {
+        return Progress {
+            next: next,
+            reached: Reached::Failed(a.page_fault()),
+        };
+    }
+    let mut left = tables.levels;
+    let mut guest = start(a);
+    let second_tables = a.second;
+    // neither stage is on
+    if (left == 0) & (second_tables.levels == 0) {
+        return Progress {
+            next: next,
+            reached: conclude(base, len, a, passed(guest)),
+        };
+    }
+    let t = a.first_need().test();
+    loop {
+        let s = second(base, limit, bytes, a, left, guest, next, &mut *out);
+        next = s.next;
+        let reached = s.reached;
+        let Reached::At(m) = reached else {
+            return Progress {
+                next: next,
+                reached: reached,
+            };
+        };
+        if left == 0 {
+            return Progress {
+                next: next,
+                reached: conclude(base, len, a, m),
+            };
+        }
+        let at = m.0;
+        let Entry::Value(e) = fetch_below(base, limit, bytes, at) else {
+            return Progress {
+                next: next,
+                reached: Reached::Failed(a.access_fault()),
+            };
+        };
+        left = left - 1;
+        put(&mut *out, next, 1, left, at, e);
+        next = next + 4;
+        let j = t.judge(left, address, e);
+        match j {
+            Judgement::Bad => {
+                return Progress {
+                    next: next,
+                    reached: Reached::Failed(a.page_fault()),
+                };
+            }
+            Judgement::Leaf(x) => {
+                left = 0;
+                guest = Guest(x);
+            }
+            Judgement::Pointer(table) => {
+                guest = Guest(table + 8 * rules::index(left - 1, address));
+            }
+        }
+    }
+}
+
+// Zeros from an index up to another.
+pub fn clear(from: usize, end: usize, out: &mut [u64])
+    requires { ⌜ (from ≤ end) × (end ≤ length (now out)) ⌝ }
+    ensures { λ _. ⌜ now (out .exit) ≡ sets (now (out .entry)) from (replicate (end - from) 0) ⌝ }
+{
+    let mut i = from;
+    while i < end {
+        out[i] = 0;
+        i += 1;
+    }
+}
+
+// The walk of an access over an image, its list written into so many places of out, four words each, from an index on.
+pub fn list(
+    base: u64,
+    bytes: &[u8],
+    a: Access,
+    places: usize,
+    from: usize,
+    out: &mut [u64],
+) -> Listed
+    requires { ⌜ (base + length (now bytes) ≤ 2 ^ 56) × Tables a × (reach a (a .first .levels) ≤ places) × (from + 4 * places ≤ length (now out)) ⌝ }
+    ensures { λ r. ⌜ Written (run (look base (now (bytes .entry))) (walkOf base (length (now (bytes .entry))) a)) places from (now (out .entry)) (now (out .exit)) r ⌝ }
+{
+    let w = walk_into(base, bytes, a, from, &mut *out);
+    let next = w.next;
+    let reached = w.reached;
+    clear(next, from + 4 * places, &mut *out);
+    Listed {
+        count: (next - from) / 4,
+        reached: reached,
+    }
+}
