@@ -1,8 +1,7 @@
 //! The C call on prepared words, without the wrapper: what is left of the wrapper's time is its own.
 #![allow(unsafe_code)]
 
-use crate::plain::Hart;
-use balcumentri::{Access, Image, Kind};
+use balcumentri::{Access, Hart, Image, Kind};
 
 /// A hart's words.
 pub type HartWords = [u64; 32];
@@ -28,10 +27,11 @@ extern "C" {
 /// A hart's words, as include/balcumentri.h lists them.
 pub fn words(hart: &Hart) -> HartWords {
     let mut words = [0; 32];
-    words[0] = hart.v;
-    words[1] = hart.privilege;
-    words[2] = hart.pc;
-    words[3..].copy_from_slice(&hart.regs);
+    words[..3].copy_from_slice(&[hart.v(), hart.privilege(), hart.pc()]);
+    for (place, word) in words[3..].iter_mut().enumerate() {
+        let number = balcumentri::number(place);
+        *word = number.and_then(|n| hart.register(n)).unwrap_or(0);
+    }
     words
 }
 

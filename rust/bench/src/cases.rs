@@ -1,7 +1,8 @@
-//! Harts, images and accesses whose walks take 0, 3 and 15 reads.
+//! Harts, images and accesses: walks of 0, 3 and 15 reads, walks that end with a fault, and a hart that is refused.
 
-use balcumentri::{Access, Hart, Image, Kind};
+use balcumentri::{Access, Answer, Hart, Image, Kind};
 use compare::rng::Rng;
+use std::fmt;
 
 /// What is translated in one case: these accesses, on one hart and one image.
 pub struct Case {
@@ -9,6 +10,8 @@ pub struct Case {
     pub name: &'static str,
     /// How many entries each access reads.
     pub reads: usize,
+    /// What each access comes to.
+    pub outcome: Outcome,
     /// The hart.
     pub hart: Hart,
     /// The accesses, in the order of their translation.
@@ -26,6 +29,134 @@ impl Case {
     }
 }
 
+/// What the accesses of a case come to.
+#[derive(Clone, Copy, Debug, PartialEq, Eq)]
+pub enum Outcome {
+    /// A machine address.
+    Address,
+    /// A fault: the causes of a fetch, a load and a store, and the instruction word.
+    Fault([u64; 3], u64),
+    /// A refusal with this number.
+    Refused(u64),
+}
+
+impl Outcome {
+    /// Whether an access of this kind came to that.
+    pub fn is(self, kind: Kind, answer: Answer) -> bool {
+        match (self, answer) {
+            (Outcome::Address, Answer::Address(_)) => true,
+            (Outcome::Fault(causes, word), Answer::Fault(fault)) => {
+                (fault.cause, fault.word) == (causes[kind as usize], word)
+            }
+            (Outcome::Refused(number), Answer::Refused(answered)) => answered == number,
+            _ => false,
+        }
+    }
+}
+
+/// Short: "address", the causes, "refused".
+impl fmt::Display for Outcome {
+    fn fmt(&self, formatter: &mut fmt::Formatter<'_>) -> fmt::Result {
+        match self {
+            Outcome::Address => formatter.pad("address"),
+            Outcome::Fault([fetch, load, store], _) if fetch == load && load == store => {
+                formatter.pad(&load.to_string())
+            }
+            Outcome::Fault([fetch, load, store], _) => {
+                formatter.pad(&format!("{fetch}/{load}/{store}"))
+            }
+            Outcome::Refused(_) => formatter.pad("refused"),
+        }
+    }
+}
+
+const PAGE: Outcome = Outcome::Fault([12, 13, 15], 0);
+const GUEST_PAGE: Outcome = Outcome::Fault([20, 21, 23], 0);
+/// A guest-page fault for an entry of the first stage, which is loaded.
+const ENTRY: Outcome = Outcome::Fault([21; 3], 0x3000);
+/// A misaligned load, in the cases where all accesses are loads.
+const MISALIGNED: Outcome = Outcome::Fault([4; 3], 0);
+
+/// How a case is made.
+struct Plan {
+    name: &'static str,
+    mode: Mode,
+    stages: Stages,
+    flaw: Flaw,
+    reads: usize,
+    outcome: Outcome,
+}
+
+/// V and the privilege.
+type Mode = (u64, u64);
+const M: Mode = (0, 3);
+const HS: Mode = (0, 1);
+const U: Mode = (0, 0);
+const VS: Mode = (1, 1);
+const VU: Mode = (1, 0);
+
+/// Whether the first stage is on, and whether the second one is.
+type Stages = (bool, bool);
+const OFF: Stages = (false, false);
+const FIRST: Stages = (true, false);
+const SECOND: Stages = (false, true);
+const BOTH: Stages = (true, true);
+
+/// What is wrong in a case. A user on pages of a supervisor faults without it.
+#[derive(Clone, Copy, PartialEq, Eq)]
+enum Flaw {
+    Nothing,
+    /// The second stage's leaves of the pages have no U.
+    Pages,
+    /// The second stage's leaves of the first stage's tables have no U, but for the root's.
+    Tables,
+    /// Bit 38 of an address differs from the bits above.
+    HighBits,
+    /// All accesses are loads, one byte off.
+    Misaligned,
+    /// A register holds what it can't.
+    Register,
+}
+
+/// The cases: no stage on, one alone, both; then faults, and a hart that is refused.
+const PLANS: [Plan; 13] = {
+    use Flaw::{HighBits, Misaligned, Nothing, Pages, Register, Tables};
+    use Outcome::{Address, Refused};
+    [
+        plan("M, no translation", M, OFF, Nothing, 0, Address),
+        plan("HS, satp Bare", HS, OFF, Nothing, 0, Address),
+        plan("VS, both Bare", VS, OFF, Nothing, 0, Address),
+        plan("HS, satp Sv39", HS, FIRST, Nothing, 3, Address),
+        plan("VS, hgatp Sv39x4", VS, SECOND, Nothing, 3, Address),
+        plan("VS, both stages", VS, BOTH, Nothing, 15, Address),
+        plan("U, page without U", U, FIRST, Nothing, 3, PAGE),
+        plan("VS, guest page without U", VS, SECOND, Pages, 3, GUEST_PAGE),
+        plan("VS, guest table without U", VS, BOTH, Tables, 7, ENTRY),
+        plan("VU, both, page without U", VU, BOTH, Nothing, 12, PAGE),
+        plan("HS, high bits differ", HS, FIRST, HighBits, 0, PAGE),
+        plan("HS, misaligned load", HS, FIRST, Misaligned, 0, MISALIGNED),
+        plan("M, register out of range", M, OFF, Register, 0, Refused(2)),
+    ]
+};
+
+const fn plan(
+    name: &'static str,
+    mode: Mode,
+    stages: Stages,
+    flaw: Flaw,
+    reads: usize,
+    outcome: Outcome,
+) -> Plan {
+    Plan {
+        name,
+        mode,
+        stages,
+        flaw,
+        reads,
+        outcome,
+    }
+}
+
 const BASE: u64 = 0x8000_0000;
 /// The pages that the accesses touch.
 const PAGES: u64 = 1024;
@@ -36,6 +167,7 @@ const IMAGE: u64 = (PAGES + 256) * 4096;
 
 const SATP: u64 = 0x180;
 const VSATP: u64 = 0x280;
+const MEPC: u64 = 0x341;
 const HGATP: u64 = 0x680;
 const SV39: u64 = 8 << 60;
 
@@ -46,26 +178,27 @@ const SUPERVISOR: u64 = 0xcf;
 /// A leaf of the second stage, or for a user: these and U.
 const USER: u64 = 0xdf;
 
-/// The cases: no stage on, one alone, both.
+/// All cases.
 pub fn cases() -> Vec<Case> {
-    vec![
-        case("M, no translation", 0, (0, 3), false, false),
-        case("HS, satp Bare", 0, (0, 1), false, false),
-        case("VS, both Bare", 0, (1, 1), false, false),
-        case("HS, satp Sv39", 3, (0, 1), true, false),
-        case("VS, hgatp Sv39x4", 3, (1, 1), false, true),
-        case("VS, both stages", 15, (1, 1), true, true),
-    ]
+    PLANS.iter().map(made).collect()
 }
 
-fn case(name: &'static str, reads: usize, mode: (u64, u64), first: bool, second: bool) -> Case {
-    let mut memory = Memory::new(second);
-    let root = memory.guest_page();
+/// The case at a place among all.
+pub fn case(place: usize) -> Option<Case> {
+    PLANS.get(place).map(made)
+}
+
+fn made(plan: &Plan) -> Case {
+    let (v, privilege) = plan.mode;
+    let (first, second) = plan.stages;
+    let leaf = |flaw| if plan.flaw == flaw { SUPERVISOR } else { USER };
+    let mut memory = Memory::new(second, leaf(Flaw::Tables));
+    let root = memory.guest_page(USER);
     // The pages at addresses of four top-level entries, eight second-level tables each.
     let mut rng = Rng::new(1);
     let pages: Vec<u64> = (0..PAGES)
         .map(|page| {
-            let physical = memory.guest_page();
+            let physical = memory.guest_page(leaf(Flaw::Pages));
             if !first {
                 return physical;
             }
@@ -75,18 +208,22 @@ fn case(name: &'static str, reads: usize, mode: (u64, u64), first: bool, second:
             address
         })
         .collect();
-    let mut hart = Hart::new(mode.0, mode.1, 0x1000);
-    let mut hold = |number, table: u64| assert!(hart.put_register(number, SV39 | table >> 12));
+    let mut hart = Hart::new(v, privilege, 0x1000);
+    let mut hold = |number, value| assert!(hart.put_register(number, value));
     if first {
-        hold(if mode.0 == 1 { VSATP } else { SATP }, root);
+        hold(if v == 1 { VSATP } else { SATP }, SV39 | root >> 12);
     }
     if let Some(table) = memory.second {
-        hold(HGATP, table);
+        hold(HGATP, SV39 | table >> 12);
     }
-    let accesses = (0..ACCESSES).map(|n| access(n, &pages, &mut rng));
+    if plan.flaw == Flaw::Register {
+        hold(MEPC, 0b10);
+    }
+    let accesses = (0..ACCESSES).map(|n| flawed(access(n, &pages, &mut rng), plan.flaw));
     Case {
-        name,
-        reads,
+        name: plan.name,
+        reads: plan.reads,
+        outcome: plan.outcome,
         hart,
         accesses: accesses.collect(),
         bytes: memory.bytes,
@@ -107,12 +244,30 @@ fn access(n: u64, pages: &[u64], rng: &mut Rng) -> Access {
     }
 }
 
+/// The access with the flaw, if it is one of accesses.
+fn flawed(access: Access, flaw: Flaw) -> Access {
+    match flaw {
+        Flaw::HighBits => Access {
+            address: access.address | 1 << 38,
+            ..access
+        },
+        Flaw::Misaligned => Access {
+            kind: Kind::Load,
+            address: access.address + 1,
+            width: 8,
+        },
+        _ => access,
+    }
+}
+
 /// An image under construction: its pages are handed out from the first on.
 struct Memory {
     bytes: Vec<u8>,
     used: u64,
     /// The root of the second stage, where it is on.
     second: Option<u64>,
+    /// The second stage's leaf bits of the first stage's tables.
+    tables: u64,
     /// With the second stage on: the machine page of each guest page, in the order in which they were handed out.
     guests: Vec<u64>,
 }
@@ -128,11 +283,12 @@ fn guest_number(address: u64) -> u64 {
 }
 
 impl Memory {
-    fn new(second: bool) -> Memory {
+    fn new(second: bool, tables: u64) -> Memory {
         let mut memory = Memory {
             bytes: vec![0; IMAGE as usize],
             used: 0,
             second: None,
+            tables,
             guests: Vec::new(),
         };
         // first, so that the 16 KiB stand at a multiple of 16 KiB
@@ -149,8 +305,8 @@ impl Memory {
         at
     }
 
-    /// A new page at a guest physical address, which is a machine address where the second stage is off.
-    fn guest_page(&mut self) -> u64 {
+    /// A new page at a guest physical address, by a leaf with these bits. Where the second stage is off, that is a machine address.
+    fn guest_page(&mut self, leaf: u64) -> u64 {
         let machine = self.pages(1);
         let Some(root) = self.second else {
             return machine;
@@ -160,20 +316,26 @@ impl Memory {
         let top = root + 8 * (guest >> 30);
         let middle = self.table(top, Memory::new_table) + 8 * (guest >> 21 & 511);
         let bottom = self.table(middle, Memory::new_table) + 8 * (guest >> 12 & 511);
-        self.put(bottom, machine >> 2 | USER);
+        self.put(bottom, machine >> 2 | leaf);
         guest
     }
 
     /// Maps a 4 KiB page in the first stage.
     fn map_first(&mut self, root: u64, address: u64, physical: u64) {
         let top = self.machine(root + 8 * (address >> 30 & 511));
-        let middle = self.table(top, Memory::guest_page) + 8 * (address >> 21 & 511);
+        let middle = self.table(top, Memory::guest_table) + 8 * (address >> 21 & 511);
         let middle = self.machine(middle);
-        let bottom = self.table(middle, Memory::guest_page) + 8 * (address >> 12 & 511);
+        let bottom = self.table(middle, Memory::guest_table) + 8 * (address >> 12 & 511);
         let bottom = self.machine(bottom);
         self.put(bottom, physical >> 2 | SUPERVISOR);
     }
 
+    /// A new table of the first stage.
+    fn guest_table(&mut self) -> u64 {
+        self.guest_page(self.tables)
+    }
+
+    /// A new table of the second stage.
     fn new_table(&mut self) -> u64 {
         self.pages(1)
     }

@@ -1,6 +1,7 @@
-//! `bench [ROUNDS]`: translations per second through the proved library and through plain Rust.
+//! `bench [ROUNDS]`: the time of a translation through the proved library and through plain Rust.
 
-use bench::cases::{cases, Case};
+use bench::cases::{case, cases, Case};
+use bench::instructions::{count, COUNTED, ONCE};
 use bench::sides::{Prepared, SIDES};
 use std::io::{self, Write};
 use std::process::ExitCode;
@@ -9,26 +10,36 @@ use std::time::Duration;
 /// The rounds where no number is given.
 const ROUNDS: usize = 51;
 /// How long a round of one side takes, roughly.
-const ROUND: Duration = Duration::from_millis(10);
+const ROUND: Duration = Duration::from_millis(5);
 
 fn main() -> ExitCode {
     let arguments: Vec<String> = std::env::args().skip(1).collect();
-    let rounds = match arguments.as_slice() {
-        [] => Some(ROUNDS),
-        [rounds] => rounds.parse().ok().filter(|rounds| *rounds > 0),
+    let arguments: Vec<&str> = arguments.iter().map(String::as_str).collect();
+    let done = match arguments.as_slice() {
+        [] => Some(run(ROUNDS)),
+        [rounds] => rounds.parse().ok().filter(|n| *n > 0).map(run),
+        [ONCE, place, symbol] => once(place, symbol).map(Ok),
         _ => None,
     };
-    let Some(rounds) = rounds else {
-        let _ = writeln!(io::stderr(), "usage: bench [ROUNDS]");
-        return ExitCode::from(2);
-    };
-    match run(rounds) {
-        Ok(()) => ExitCode::SUCCESS,
-        Err(why) => {
+    match done {
+        Some(Ok(())) => ExitCode::SUCCESS,
+        Some(Err(why)) => {
             let _ = writeln!(io::stderr(), "bench: {why}");
             ExitCode::from(1)
         }
+        None => {
+            let _ = writeln!(io::stderr(), "usage: bench [ROUNDS]");
+            ExitCode::from(2)
+        }
     }
+}
+
+/// The run under callgrind: the accesses of one case once through one side.
+fn once(place: &str, symbol: &str) -> Option<()> {
+    let case = case(place.parse().ok()?)?;
+    let (side, _) = COUNTED.iter().find(|(_, counted)| *counted == symbol)?;
+    Prepared::new(&case).run(*side, 1);
+    Some(())
 }
 
 fn run(rounds: usize) -> Result<(), String> {
@@ -39,73 +50,107 @@ fn run(rounds: usize) -> Result<(), String> {
     }
     let inputs: usize = cases.iter().map(|case| case.accesses.len()).sum();
     say(&format!(
-        "{inputs} translations: all sides give the same answers and lists. Now timed in {rounds} alternating rounds: nanoseconds for"
+        "{inputs} translations: all sides give the same answers and lists."
     ))?;
-    say("one (median of the rounds, least in brackets), millions in a second, and the time over plain Rust's of the same round")?;
-    say("(median). The proved library writes over a translation that is kept, or gives one by value, which is copied.\n")?;
+    let counts = instructions(&cases);
     say(&format!(
-        "{:<18} {:>5}  {:>22}  {:>22}  {:>22}  {:>6} {:>6}",
-        "walk", "reads", "plain Rust", "proved library", "proved, by value", "ratio", "value"
+        "Now timed in {rounds} rounds over all cases, the sides of each in turn."
     ))?;
-    let mut timed = 0.0;
-    for (case, prepared) in cases.iter().zip(&prepared) {
-        let ([plain, proved, value], translations) = measure(case, prepared, rounds);
-        timed += translations;
-        say(&format!(
-            "{:<18} {:>5}  {plain}  {proved}  {value}  {:>6.2} {:>6.2}",
-            case.name, case.reads, proved.ratio, value.ratio,
-        ))?;
+    let times = measure(&cases, &prepared, rounds);
+    say(HEAD)?;
+    for (place, case) in cases.iter().enumerate() {
+        let counts = counts.as_ref().ok().map(|counts| counts[place]);
+        say(&row(case, &times[place], counts))?;
     }
-    say(&format!("\n{:.0} million translations timed", timed / 1e6))
+    match counts {
+        Ok(_) => Ok(()),
+        Err(why) => say(&format!("\nno instructions counted: {why}")),
+    }
+}
+
+/// The instructions of one translation of each case, by each counted side.
+fn instructions(cases: &[Case]) -> Result<Vec<[u64; COUNTED.len()]>, String> {
+    let program = std::env::current_exe().map_err(|error| error.to_string())?;
+    let mut counts = vec![[0; COUNTED.len()]; cases.len()];
+    for (place, case) in cases.iter().enumerate() {
+        for (side, (_, symbol)) in COUNTED.iter().enumerate() {
+            let all = count(&program, place, symbol)? as f64;
+            counts[place][side] = (all / case.accesses.len() as f64).round() as u64;
+        }
+    }
+    Ok(counts)
+}
+
+/// What stands above the table's lines.
+const HEAD: &str = "
+answer: an address, or the causes of the faults (of fetches/loads/stores), or a refusal
+C call: balcumentri_translate on words that the caller keeps
+wrapper: Hart::translate_into over a translation that the caller keeps; by value: Hart::translate
+instructions: of one translation, counted by callgrind
+
+                                                 nanoseconds: median and least of the rounds   over plain Rust: median, least  instructions
+case                      answer   reads   plain Rust       C call      wrapper     by value     C call    wrapper   by value  plain C call";
+
+/// A line of the table.
+fn row(case: &Case, times: &[Times; SIDES.len()], counts: Option<[u64; COUNTED.len()]>) -> String {
+    let mut row = format!("{:<25} {:<8} {:>5}", case.name, case.outcome, case.reads);
+    for Times { median, least } in times {
+        row += &format!("  {median:>5.1} {least:>5.1}");
+    }
+    let plain = &times[0];
+    for side in &times[1..] {
+        let (median, least) = (side.median / plain.median, side.least / plain.least);
+        row += &format!("  {median:>4.2} {least:>4.2}");
+    }
+    match counts {
+        Some(counts) => counts.iter().for_each(|n| row += &format!("{n:>7}")),
+        None => row += &"      -".repeat(COUNTED.len()),
+    }
+    row
 }
 
 /// Nanoseconds for one translation.
 struct Times {
     median: f64,
     least: f64,
-    /// Over plain Rust's of the same round.
-    ratio: f64,
 }
 
-impl std::fmt::Display for Times {
-    fn fmt(&self, formatter: &mut std::fmt::Formatter<'_>) -> std::fmt::Result {
-        let millions = 1000.0 / self.median;
-        write!(
-            formatter,
-            "{:>6.1} ({:>5.1}) {millions:>6.2}/s",
-            self.median, self.least
-        )
-    }
-}
-
-/// Times all sides in turn, each round beginning with another one. With it comes how many translations were timed.
-fn measure(case: &Case, prepared: &Prepared, rounds: usize) -> ([Times; SIDES.len()], f64) {
-    // once each to warm up, which also says how often a round goes over the accesses
-    let slowest = SIDES.map(|side| prepared.time(side, 2)).into_iter().max();
-    let slowest = slowest.unwrap_or(ROUND).max(Duration::from_micros(2)) / 2;
-    let times = (ROUND.as_nanos() / slowest.as_nanos()).clamp(1, 10_000) as u32;
-    let translations = f64::from(times) * case.accesses.len() as f64;
-    let mut nanoseconds = SIDES.map(|_| Vec::new());
-    for round in 0..rounds {
-        for turn in 0..SIDES.len() {
-            let at = (round + turn) % SIDES.len();
-            let taken = prepared.time(SIDES[at], times);
-            nanoseconds[at].push(taken.as_nanos() as f64 / translations);
+impl Times {
+    /// Those of the rounds.
+    fn of(mut rounds: Vec<f64>) -> Times {
+        rounds.sort_by(f64::total_cmp);
+        Times {
+            median: rounds[rounds.len() / 2],
+            least: rounds[0],
         }
     }
-    let plain = nanoseconds[0].clone();
-    let times = nanoseconds.map(|each| Times {
-        least: each.iter().copied().fold(f64::INFINITY, f64::min),
-        ratio: median(each.iter().zip(&plain).map(|(one, plain)| one / plain)),
-        median: median(each.iter().copied()),
-    });
-    (times, translations * (rounds * SIDES.len()) as f64)
 }
 
-fn median(numbers: impl Iterator<Item = f64>) -> f64 {
-    let mut sorted: Vec<f64> = numbers.collect();
-    sorted.sort_by(f64::total_cmp);
-    sorted[sorted.len() / 2]
+/// Times the cases: in each round every case, all its sides in turn, each round beginning with another one.
+fn measure(cases: &[Case], prepared: &[Prepared], rounds: usize) -> Vec<[Times; SIDES.len()]> {
+    let repeats: Vec<u32> = prepared.iter().map(repeats).collect();
+    let mut nanoseconds = vec![SIDES.map(|_| Vec::new()); cases.len()];
+    for round in 0..rounds {
+        for (place, case) in cases.iter().enumerate() {
+            let translations = f64::from(repeats[place]) * case.accesses.len() as f64;
+            for turn in 0..SIDES.len() {
+                let at = (round + turn) % SIDES.len();
+                let taken = prepared[place].time(SIDES[at], repeats[place], round);
+                nanoseconds[place][at].push(taken.as_nanos() as f64 / translations);
+            }
+        }
+    }
+    nanoseconds
+        .into_iter()
+        .map(|case| case.map(Times::of))
+        .collect()
+}
+
+/// How often a round goes over the accesses of a case, by the slowest side.
+fn repeats(case: &Prepared) -> u32 {
+    let slowest = SIDES.map(|side| case.time(side, 2, 0)).into_iter().max();
+    let slowest = slowest.unwrap_or(ROUND).max(Duration::from_micros(2)) / 2;
+    (ROUND.as_nanos() / slowest.as_nanos()).clamp(1, 10_000) as u32
 }
 
 fn say(line: &str) -> Result<(), String> {

@@ -1,83 +1,93 @@
 //! The translation as plain Rust, written for speed: the other side of the comparison.
 //!
 //! It does all that the proved call does: check 2 over the whole hart, check 1, check 3, misalignment, the effective mode, both
-//! stages, and the list of fifteen places by value. Nothing is kept between calls.
+//! stages, and the list of fifteen places. Nothing is kept between calls. What makes it fast:
+//!
+//! - The caller lends the result. The walk writes its entries there, and only the places after them are zeroed, once it is done.
+//! - One compare says whether an entry lies in the image; it is then loaded, and its place written, unchecked.
+//! - The rules of a hart and of an entry are masks over whole words, not tests of one bit after another.
+//! - All inner functions become one with [`translate`].
+#![allow(unsafe_code)]
 
-use balcumentri::{Access, Answer, Fault, Hart as Proved, Image, Kind, Read};
+use crate::call::HartWords;
+use balcumentri::{Access, Answer, Fault, Image, Kind, Read};
 
-/// A hart: each register at its place in the table.
-#[derive(Clone, Copy, Debug)]
-pub struct Hart {
-    /// The virtualization mode V.
-    pub v: u64,
-    /// The privilege: 0 U, 1 S, 3 M.
-    pub privilege: u64,
-    /// The program counter.
-    pub pc: u64,
-    /// The registers.
-    pub regs: [u64; 29],
-}
-
-/// A translation: the answer, and the entries read for it.
+/// A translation: the answer, and the entries read for it. The default one has address 0 and no entry.
 #[derive(Clone, Copy, Debug, PartialEq, Eq)]
 pub struct Translation {
     /// The answer.
     pub answer: Answer,
     /// The list's places; those from the count on are zero.
-    pub places: [Read; 15],
+    pub places: [Read; PLACES],
     /// How many entries were read.
     pub count: usize,
 }
 
-impl Hart {
-    /// The same hart.
-    pub fn of(hart: &Proved) -> Hart {
-        let mut regs = [0; 29];
-        for (place, reg) in regs.iter_mut().enumerate() {
-            let number = balcumentri::number(place);
-            *reg = number.and_then(|n| hart.register(n)).unwrap_or(0);
-        }
-        Hart {
-            v: hart.v(),
-            privilege: hart.privilege(),
-            pc: hart.pc(),
-            regs,
+/// The most entries that a walk reads: at each of three levels of the first stage one, after three of the second stage for its
+/// address; and three of the second stage for the access itself.
+const PLACES: usize = 3 * (3 + 1) + 3;
+
+impl Default for Translation {
+    fn default() -> Self {
+        Translation {
+            answer: Answer::Address(0),
+            places: [Read::default(); PLACES],
+            count: 0,
         }
     }
 }
 
-// Places of the registers that check 2 or the walk looks at.
-const SSTATUS: usize = 0;
-const STVEC: usize = 1;
-const SEPC: usize = 3;
-const SATP: usize = 6;
-const VSSTATUS: usize = 7;
-const VSTVEC: usize = 8;
-const VSEPC: usize = 10;
-const VSATP: usize = 13;
-const MSTATUS: usize = 14;
-const MEDELEG: usize = 15;
-const MTVEC: usize = 16;
-const MEPC: usize = 18;
-const HSTATUS: usize = 23;
-const HEDELEG: usize = 24;
-const HGATP: usize = 27;
-const HGEIP: usize = 28;
+// A hart's words that check 2 or the walk looks at.
+const VIRTUALIZATION: usize = 0;
+const PRIVILEGE: usize = 1;
+const PC: usize = 2;
+const SSTATUS: usize = 3;
+const STVEC: usize = 4;
+const SEPC: usize = 6;
+const SATP: usize = 9;
+const VSSTATUS: usize = 10;
+const VSTVEC: usize = 11;
+const VSEPC: usize = 13;
+const VSATP: usize = 16;
+const MSTATUS: usize = 17;
+const MEDELEG: usize = 18;
+const MTVEC: usize = 19;
+const MEPC: usize = 21;
+const HSTATUS: usize = 26;
+const HEDELEG: usize = 27;
+const HGATP: usize = 30;
+const HGEIP: usize = 31;
 
+// Privileges.
+const USER: u64 = 0;
+const MACHINE: u64 = 3;
+
+// Fields of the status words.
+const SIE: u64 = 1 << 1;
+const MIE: u64 = 1 << 3;
+const SPIE: u64 = 1 << 5;
+const MPIE: u64 = 1 << 7;
+const SPP: u64 = 1 << 8;
 const MPP_LOW: u32 = 11;
+const MPP: u64 = 3 << MPP_LOW;
 const MPRV: u64 = 1 << 17;
 const SUM: u64 = 1 << 18;
 const MXR: u64 = 1 << 19;
+const TVM_TW_TSR: u64 = 7 << 20;
+const GVA: u64 = 1 << 38;
 const MPV: u64 = 1 << 39;
+const UXL_64: u64 = 2 << 32;
+const SXL_64: u64 = 2 << 34;
+const HSTATUS_GVA_SPV_SPVP_HU: u64 = 0xf << 6;
+const VTVM_VTW_VTSR: u64 = 7 << 20;
 
-// Stored bits, and what the others read.
-const STATUS_STORED: u64 = 1 << 1 | 1 << 5 | 1 << 8 | SUM | MXR;
-const STATUS_FIXED: u64 = 2 << 32;
-const MSTATUS_STORED: u64 =
-    STATUS_STORED | 1 << 3 | 1 << 7 | 3 << MPP_LOW | MPRV | 7 << 20 | 1 << 38 | MPV;
-const MSTATUS_FIXED: u64 = 2 << 32 | 2 << 34;
-const HSTATUS_STORED: u64 = 0xf << 6 | 7 << 20;
-const HSTATUS_FIXED: u64 = 2 << 32;
+// What each register stores, and what its other bits read.
+const VSSTATUS_STORED: u64 = SIE | SPIE | SPP | SUM | MXR;
+const VSSTATUS_FIXED: u64 = UXL_64;
+const MSTATUS_STORED: u64 = VSSTATUS_STORED | MIE | MPIE | MPP | MPRV | TVM_TW_TSR | GVA | MPV;
+const MSTATUS_FIXED: u64 = UXL_64 | SXL_64;
+const HSTATUS_STORED: u64 = HSTATUS_GVA_SPV_SPVP_HU | VTVM_VTW_VTSR;
+const HSTATUS_FIXED: u64 = UXL_64;
 const MEDELEG_STORED: u64 = 0xf0_b7ff;
 const HEDELEG_STORED: u64 = 0xb1ff;
 const TVEC_ZERO: u64 = 0b10;
@@ -86,6 +96,7 @@ const EPC_ZERO: u64 = 0b11;
 const MODE_ZERO: u64 = 7 << 60;
 const HGATP_ZERO: u64 = MODE_ZERO | 3 << 58 | 0b11;
 
+// Fields of satp, vsatp and hgatp.
 const MODE_SV39: u64 = 1 << 63;
 const PPN: u64 = (1 << 44) - 1;
 
@@ -99,74 +110,122 @@ const A: u64 = 1 << 6;
 const D: u64 = 1 << 7;
 const RESERVED: u64 = !0 << 54;
 
-const UNREAD: Read = Read {
-    stage: 0,
-    level: 0,
-    address: 0,
-    value: 0,
-};
+/// The pseudoinstruction for a read of eight bytes by the walk itself.
+const READ_OF_ENTRY: u64 = 0x3000;
 
-/// The translation of an access over an image. It is inlined, so that the result is built where the caller keeps it.
-#[inline(always)]
-pub fn translate(hart: &Hart, image: Image<'_>, access: Access) -> Translation {
-    let mut result = Translation {
-        answer: Answer::Refused(2),
-        places: [UNREAD; 15],
+/// The translation of an access over an image, written over `out`. Callgrind finds it by its symbol.
+#[inline(never)]
+#[export_name = "plain_translate"]
+pub fn translate(hart: &HartWords, image: Image<'_>, access: Access, out: &mut Translation) {
+    if !passes(hart) {
+        return out.finish(0, Answer::Refused(2));
+    }
+    if image_refused(image) {
+        return out.finish(0, Answer::Refused(1));
+    }
+    if access_refused(access) {
+        return out.finish(0, Answer::Refused(3));
+    }
+    let Access {
+        kind,
+        address,
+        width,
+    } = access;
+    let (v, privilege) = effective(hart, kind);
+    let fault = |cause, second, word| {
+        Answer::Fault(Fault {
+            cause,
+            value: address,
+            second,
+            word,
+            flag: v,
+        })
+    };
+    if address & (width - 1) != 0 {
+        return out.finish(0, fault(by(kind, 0, 4, 6), 0, 0));
+    }
+    let mstatus = hart[MSTATUS];
+    // the first stage's table register, and the status word whose SUM and MXR count there
+    let (atp, status) = if v {
+        (hart[VSATP], hart[VSSTATUS])
+    } else if privilege == MACHINE {
+        (0, mstatus)
+    } else {
+        (hart[SATP], mstatus)
+    };
+    let mut walk = Walk {
+        image,
+        limit: (image.bytes.len() as u64).saturating_sub(7),
+        hgatp: if v { hart[HGATP] } else { 0 },
+        places: &mut out.places,
         count: 0,
     };
-    settle(hart, image, access, &mut result);
-    result
-}
-
-/// The refusals in their order, then the walk.
-#[inline(never)]
-fn settle(hart: &Hart, image: Image<'_>, access: Access, result: &mut Translation) {
-    if !passes(hart) {
-        return;
-    }
-    result.answer = if image_refused(image) {
-        Answer::Refused(1)
-    } else if access_refused(access) {
-        Answer::Refused(3)
-    } else {
-        answer(hart, image, access, &mut result.places, &mut result.count)
+    let first = Need::first(kind, privilege, status, mstatus);
+    let second = Need::second(kind, mstatus);
+    let end = walk
+        .first(atp, address, first)
+        .and_then(|guest| walk.second(guest, second, End::Guest))
+        .and_then(|machine| walk.whole(machine, width));
+    let answer = match end {
+        Ok(machine) => Answer::Address(machine),
+        Err(End::Outside) => fault(by(kind, 1, 5, 7), 0, 0),
+        Err(End::Page) => fault(by(kind, 12, 13, 15), 0, 0),
+        Err(End::Entry(guest)) => fault(21, guest >> 2, READ_OF_ENTRY),
+        Err(End::Guest(guest)) => fault(by(kind, 20, 21, 23), guest >> 2, 0),
     };
+    let count = walk.count;
+    out.finish(count, answer);
 }
 
-/// Check 2, as one word that is zero where every rule holds.
+impl Translation {
+    /// Ends a translation whose walk has written so many places.
+    #[inline(always)]
+    fn finish(&mut self, count: usize, answer: Answer) {
+        self.count = count;
+        // SAFETY: these are the places from count on, which is at most PLACES, and zeros are a Read.
+        unsafe {
+            std::ptr::write_bytes(self.places.as_mut_ptr().add(count), 0, PLACES - count);
+        }
+        self.answer = answer;
+    }
+}
+
+/// Check 2: one word is zero where every rule of a register holds.
 #[inline(always)]
-fn passes(hart: &Hart) -> bool {
-    let r = &hart.regs;
-    let mode = hart.v > 1 || hart.privilege > 3 - 2 * hart.v || hart.privilege == 2;
-    let mprv = r[MSTATUS] & MPRV != 0 && hart.privilege != 3;
-    let mpp_is_2 = (r[MSTATUS] >> 1) & !r[MSTATUS] & 1 << MPP_LOW;
-    let wrong = hart.pc & EPC_ZERO
-        | r[SSTATUS]
-        | r[STVEC] & TVEC_ZERO
-        | r[SEPC] & EPC_ZERO
-        | r[SATP] & MODE_ZERO
-        | (r[VSSTATUS] & !STATUS_STORED ^ STATUS_FIXED)
-        | r[VSTVEC] & TVEC_ZERO
-        | r[VSEPC] & EPC_ZERO
-        | r[VSATP] & MODE_ZERO
-        | (r[MSTATUS] & !MSTATUS_STORED ^ MSTATUS_FIXED)
+fn passes(hart: &HartWords) -> bool {
+    let (v, privilege, mstatus) = (hart[VIRTUALIZATION], hart[PRIVILEGE], hart[MSTATUS]);
+    let no_mode = v > 1 || privilege > 3 - 2 * v || privilege == 2;
+    let mprv = mstatus & MPRV != 0 && privilege != MACHINE;
+    let mpp_is_2 = (mstatus >> 1) & !mstatus & 1 << MPP_LOW;
+    let wrong = hart[PC] & EPC_ZERO
+        | hart[SSTATUS]
+        | hart[STVEC] & TVEC_ZERO
+        | hart[SEPC] & EPC_ZERO
+        | hart[SATP] & MODE_ZERO
+        | (hart[VSSTATUS] & !VSSTATUS_STORED ^ VSSTATUS_FIXED)
+        | hart[VSTVEC] & TVEC_ZERO
+        | hart[VSEPC] & EPC_ZERO
+        | hart[VSATP] & MODE_ZERO
+        | (mstatus & !MSTATUS_STORED ^ MSTATUS_FIXED)
         | mpp_is_2
-        | r[MEDELEG] & !MEDELEG_STORED
-        | r[MTVEC] & TVEC_ZERO
-        | r[MEPC] & EPC_ZERO
-        | (r[HSTATUS] & !HSTATUS_STORED ^ HSTATUS_FIXED)
-        | r[HEDELEG] & !HEDELEG_STORED
-        | r[HGATP] & HGATP_ZERO
-        | r[HGEIP];
-    !mode & !mprv & (wrong == 0)
+        | hart[MEDELEG] & !MEDELEG_STORED
+        | hart[MTVEC] & TVEC_ZERO
+        | hart[MEPC] & EPC_ZERO
+        | (hart[HSTATUS] & !HSTATUS_STORED ^ HSTATUS_FIXED)
+        | hart[HEDELEG] & !HEDELEG_STORED
+        | hart[HGATP] & HGATP_ZERO
+        | hart[HGEIP];
+    !no_mode & !mprv & (wrong == 0)
 }
 
+/// Check 1.
 #[inline(always)]
 fn image_refused(image: Image<'_>) -> bool {
     let length = image.bytes.len() as u64;
     length > 1 << 26 || (image.base | length) & 4095 != 0 || image.base > (1 << 56) - length
 }
 
+/// Check 3.
 #[inline(always)]
 fn access_refused(access: Access) -> bool {
     let Access {
@@ -175,6 +234,100 @@ fn access_refused(access: Access) -> bool {
         width,
     } = access;
     !matches!(width, 1 | 2 | 4 | 8) || kind == Kind::Fetch && (width != 4 || address & 3 != 0)
+}
+
+/// The mode that an access goes by: V and the privilege. By check 2, MPRV is set in M alone.
+#[inline(always)]
+fn effective(hart: &HartWords, kind: Kind) -> (bool, u64) {
+    let mstatus = hart[MSTATUS];
+    if mstatus & MPRV != 0 && kind != Kind::Fetch {
+        let mpp = mstatus >> MPP_LOW & 3;
+        (mpp != MACHINE && mstatus & MPV != 0, mpp)
+    } else {
+        (hart[VIRTUALIZATION] == 1, hart[PRIVILEGE])
+    }
+}
+
+/// The number for a kind of access.
+#[inline(always)]
+fn by(kind: Kind, fetch: u64, load: u64, store: u64) -> u64 {
+    match kind {
+        Kind::Fetch => fetch,
+        Kind::Load => load,
+        Kind::Store => store,
+    }
+}
+
+/// What a leaf must be: these bits under this mask, with X counted as R where MXR helps.
+#[derive(Clone, Copy)]
+struct Need {
+    mask: u64,
+    bits: u64,
+    x_is_r: u64,
+}
+
+/// For an entry of the first stage, which the second stage takes as a user's load.
+const ENTRY: Need = Need {
+    mask: RESERVED | V | R | U | A,
+    bits: V | R | U | A,
+    x_is_r: 0,
+};
+
+impl Need {
+    /// What every stage asks of a leaf.
+    #[inline(always)]
+    fn new(kind: Kind, mxr: bool) -> Need {
+        let rights = by(kind, X, R, R | W | D);
+        Need {
+            mask: RESERVED | V | A | rights,
+            bits: V | A | rights,
+            x_is_r: if mxr && kind == Kind::Load { R } else { 0 },
+        }
+    }
+
+    /// The first stage, with its own status word and mstatus, whose MXR counts too.
+    #[inline(always)]
+    fn first(kind: Kind, privilege: u64, status: u64, mstatus: u64) -> Need {
+        let mut need = Need::new(kind, (status | mstatus) & MXR != 0);
+        if privilege == USER {
+            need.mask |= U;
+            need.bits |= U;
+        } else if kind == Kind::Fetch || status & SUM == 0 {
+            need.mask |= U;
+        }
+        need
+    }
+
+    /// The second stage, where every access is a user's.
+    #[inline(always)]
+    fn second(kind: Kind, mstatus: u64) -> Need {
+        let mut need = Need::new(kind, mstatus & MXR != 0);
+        need.mask |= U;
+        need.bits |= U;
+        need
+    }
+
+    /// Where an entry that is no pointer takes an address, if it is a leaf without a fault: its low bits, so many, stay.
+    #[inline(always)]
+    fn leaf(self, entry: u64, address: u64, shift: u32) -> Option<u64> {
+        let low = (1 << shift) - 1;
+        let page = target(entry);
+        let seen = entry | entry >> 2 & self.x_is_r;
+        let good = (seen & self.mask == self.bits) & (entry & (R | W) != W) & (page & low == 0);
+        good.then_some(page | address & low)
+    }
+}
+
+/// Whether an entry is a pointer without a fault, its level apart.
+#[inline(always)]
+fn is_pointer(entry: u64) -> bool {
+    entry & (RESERVED | V | R | W | X | U | A | D) == V
+}
+
+/// The address that an entry's PPN stands for.
+#[inline(always)]
+fn target(entry: u64) -> u64 {
+    entry << 2 & PPN << 12
 }
 
 /// How a walk ends with a fault.
@@ -189,279 +342,109 @@ enum End {
     Guest(u64),
 }
 
-#[inline(always)]
-fn answer(
-    hart: &Hart,
-    image: Image<'_>,
-    access: Access,
-    places: &mut [Read; 15],
-    count: &mut usize,
-) -> Answer {
-    let Access {
-        kind,
-        address,
-        width,
-    } = access;
-    let mstatus = hart.regs[MSTATUS];
-    let (v, privilege) = if mstatus & MPRV != 0 && kind != Kind::Fetch {
-        // check 2: MPRV is set in M alone
-        let mpp = mstatus >> MPP_LOW & 3;
-        (mpp != 3 && mstatus & MPV != 0, mpp)
-    } else {
-        (hart.v == 1, hart.privilege)
-    };
-    let fault = |cause, second, word| {
-        Answer::Fault(Fault {
-            cause,
-            value: address,
-            second,
-            word,
-            flag: v,
-        })
-    };
-    if address & (width - 1) != 0 {
-        return fault(by(kind, 0, 4, 6), 0, 0);
-    }
-    let mut walk = Walk {
-        image,
-        places,
-        count,
-    };
-    let end = if v {
-        walk.guest(hart, access, privilege == 0)
-    } else {
-        let satp = hart.regs[SATP];
-        if privilege == 3 || satp & MODE_SV39 == 0 {
-            Ok(address)
-        } else {
-            walk.first(
-                satp,
-                access,
-                Need::first(kind, privilege == 0, mstatus, mstatus),
-            )
-        }
-    };
-    match end.and_then(|address| walk.whole(address, width)) {
-        Ok(address) => Answer::Address(address),
-        Err(End::Outside) => fault(by(kind, 1, 5, 7), 0, 0),
-        Err(End::Page) => fault(by(kind, 12, 13, 15), 0, 0),
-        Err(End::Entry(at)) => fault(21, at >> 2, 0x3000),
-        Err(End::Guest(at)) => fault(by(kind, 20, 21, 23), at >> 2, 0),
-    }
-}
-
-#[inline(always)]
-fn by(kind: Kind, fetch: u64, load: u64, store: u64) -> u64 {
-    match kind {
-        Kind::Fetch => fetch,
-        Kind::Load => load,
-        Kind::Store => store,
-    }
-}
-
-/// What a leaf must be: its bits under the mask, with X counted as R where MXR helps.
-#[derive(Clone, Copy)]
-struct Need {
-    mask: u64,
-    bits: u64,
-    x_is_r: u64,
-}
-
-impl Need {
-    #[inline(always)]
-    fn new(kind: Kind, mxr: bool) -> Need {
-        let right = by(kind, X, R, R | W | D);
-        Need {
-            mask: RESERVED | V | A | right,
-            bits: V | A | right,
-            x_is_r: if mxr && kind == Kind::Load { R } else { 0 },
-        }
-    }
-
-    /// The first stage, with the status words whose SUM and MXR, and whose MXR alone, count.
-    #[inline(always)]
-    fn first(kind: Kind, user: bool, own: u64, mstatus: u64) -> Need {
-        let need = Need::new(kind, (own | mstatus) & MXR != 0);
-        if user {
-            return need.user();
-        }
-        let any = kind != Kind::Fetch && own & SUM != 0;
-        Need {
-            mask: need.mask | if any { 0 } else { U },
-            ..need
-        }
-    }
-
-    /// U=1 is needed.
-    #[inline(always)]
-    fn user(self) -> Need {
-        Need {
-            mask: self.mask | U,
-            bits: self.bits | U,
-            ..self
-        }
-    }
-
-    /// Whether this is a leaf without a fault.
-    #[inline(always)]
-    fn takes(self, entry: u64, level: u32) -> bool {
-        let seen = entry | entry >> 2 & self.x_is_r;
-        let low_ppn = ((1 << (9 * level)) - 1) << 10;
-        (seen & self.mask == self.bits) & (entry & (R | W) != W) & (entry & low_ppn == 0)
-    }
-}
-
-/// Whether this is a pointer without a fault, its level apart.
-#[inline(always)]
-fn is_pointer(entry: u64) -> bool {
-    entry & (RESERVED | V | R | W | X | U | A | D) == V
-}
-
-/// The address that an entry's PPN stands for.
-#[inline(always)]
-fn target(entry: u64) -> u64 {
-    (entry >> 10 & PPN) << 12
-}
-
-#[inline(always)]
-fn index(address: u64, level: u32) -> u64 {
-    address >> (12 + 9 * level) & 511
-}
-
-/// A leaf's address, with the low bits of the address that the stage translates.
-#[inline(always)]
-fn landed(entry: u64, address: u64, level: u32) -> u64 {
-    target(entry) | address & ((1 << (12 + 9 * level)) - 1)
-}
-
+/// A walk under way.
 struct Walk<'a> {
     image: Image<'a>,
-    places: &'a mut [Read; 15],
-    count: &'a mut usize,
+    /// The offsets in the image below this are those at which eight bytes begin.
+    limit: u64,
+    /// With V=0: zero, which is Bare.
+    hgatp: u64,
+    places: &'a mut [Read; PLACES],
+    /// How many places are written.
+    count: usize,
 }
 
 impl Walk<'_> {
     /// The entry at a machine address, listed.
     #[inline(always)]
     fn read(&mut self, stage: u64, level: u32, address: u64) -> Result<u64, End> {
-        let offset = address.wrapping_sub(self.image.base) as usize;
-        let bytes = self.image.bytes.get(offset..).and_then(<[u8]>::first_chunk);
-        let value = u64::from_le_bytes(*bytes.ok_or(End::Outside)?);
-        if let Some(place) = self.places.get_mut(*self.count) {
-            *place = Read {
-                stage,
-                level: level.into(),
-                address,
-                value,
-            };
-            *self.count += 1;
+        let offset = address.wrapping_sub(self.image.base);
+        if offset >= self.limit {
+            return Err(End::Outside);
         }
+        // SAFETY: below the limit, so eight bytes from the offset on lie in the image.
+        let value = unsafe {
+            let at = self.image.bytes.as_ptr().add(offset as usize);
+            u64::from_le(at.cast::<u64>().read_unaligned())
+        };
+        // SAFETY: a walk reads at most PLACES entries, so the count is below that before each.
+        let place = unsafe { self.places.get_unchecked_mut(self.count) };
+        *place = Read {
+            stage,
+            level: level.into(),
+            address,
+            value,
+        };
+        self.count += 1;
         Ok(value)
     }
 
     /// The access lies whole in the image.
     #[inline(always)]
     fn whole(&self, address: u64, width: u64) -> Result<u64, End> {
+        let length = self.image.bytes.len() as u64;
         let offset = address.wrapping_sub(self.image.base);
-        let room = (self.image.bytes.len() as u64).wrapping_sub(offset);
-        if offset <= self.image.bytes.len() as u64 && room >= width {
+        if offset < length && length - offset >= width {
             Ok(address)
         } else {
             Err(End::Outside)
         }
     }
 
-    /// satp's tables.
+    /// The first stage, its entries' addresses through the second one.
     #[inline(always)]
-    fn first(&mut self, satp: u64, access: Access, need: Need) -> Result<u64, End> {
-        self.stage_one(satp, access.address, need, |_, at| Ok(at))
-    }
-
-    /// With V=1: vsatp's tables through hgatp's, then the access itself through hgatp's.
-    #[inline(always)]
-    fn guest(&mut self, hart: &Hart, access: Access, user: bool) -> Result<u64, End> {
-        let Access { kind, address, .. } = access;
-        let (vsatp, hgatp) = (hart.regs[VSATP], hart.regs[HGATP]);
-        let (vsstatus, mstatus) = (hart.regs[VSSTATUS], hart.regs[MSTATUS]);
-        let second_on = hgatp & MODE_SV39 != 0;
-        let guest = if vsatp & MODE_SV39 == 0 {
-            address
-        } else {
-            let need = Need::first(kind, user, vsstatus, mstatus);
-            if second_on {
-                let read = Need::new(Kind::Load, false).user();
-                self.stage_one(vsatp, address, need, |walk, at| {
-                    walk.stage_two(hgatp, at, read, End::Entry)
-                })?
-            } else {
-                self.stage_one(vsatp, address, need, |_, at| Ok(at))?
-            }
-        };
-        if !second_on {
-            return Ok(guest);
+    fn first(&mut self, atp: u64, address: u64, need: Need) -> Result<u64, End> {
+        if atp & MODE_SV39 == 0 {
+            return Ok(address);
         }
-        let need = Need::new(kind, mstatus & MXR != 0).user();
-        self.stage_two(hgatp, guest, need, End::Guest)
-    }
-
-    /// The first stage; `machine` turns an entry's address into a machine address.
-    #[inline(always)]
-    fn stage_one(
-        &mut self,
-        atp: u64,
-        address: u64,
-        need: Need,
-        mut machine: impl FnMut(&mut Self, u64) -> Result<u64, End>,
-    ) -> Result<u64, End> {
         let high = (address as i64) >> 38;
         if high != 0 && high != -1 {
             return Err(End::Page);
         }
+        let mut level = 2;
+        let mut shift = 12 + 9 * level;
         let mut table = (atp & PPN) << 12;
-        for level in [2, 1, 0] {
-            let at = machine(self, table + 8 * index(address, level))?;
+        loop {
+            let slot = table + 8 * (address >> shift & 511);
+            let at = self.second(slot, ENTRY, End::Entry)?;
             let entry = self.read(1, level, at)?;
             if !is_pointer(entry) {
-                return if need.takes(entry, level) {
-                    Ok(landed(entry, address, level))
-                } else {
-                    Err(End::Page)
-                };
+                return need.leaf(entry, address, shift).ok_or(End::Page);
             }
+            if level == 0 {
+                return Err(End::Page);
+            }
+            level -= 1;
+            shift -= 9;
             table = target(entry);
         }
-        Err(End::Page)
     }
 
     /// The second stage.
     #[inline(always)]
-    fn stage_two(
-        &mut self,
-        hgatp: u64,
-        address: u64,
-        need: Need,
-        fault: impl Fn(u64) -> End,
-    ) -> Result<u64, End> {
-        if address >> 41 != 0 {
+    fn second(&mut self, address: u64, need: Need, fault: fn(u64) -> End) -> Result<u64, End> {
+        if self.hgatp & MODE_SV39 == 0 {
+            return Ok(address);
+        }
+        let mut level = 2;
+        let mut shift = 12 + 9 * level;
+        // the top table has four times 512 entries
+        let top = address >> shift;
+        if top >= 2048 {
             return Err(fault(address));
         }
-        let mut table = (hgatp & PPN) << 12;
-        for level in [2, 1, 0] {
-            let slot = if level == 2 {
-                address >> 30
-            } else {
-                index(address, level)
-            };
-            let entry = self.read(2, level, table + 8 * slot)?;
+        let mut at = ((self.hgatp & PPN) << 12) + 8 * top;
+        loop {
+            let entry = self.read(2, level, at)?;
             if !is_pointer(entry) {
-                return if need.takes(entry, level) {
-                    Ok(landed(entry, address, level))
-                } else {
-                    Err(fault(address))
-                };
+                return need.leaf(entry, address, shift).ok_or(fault(address));
             }
-            table = target(entry);
+            if level == 0 {
+                return Err(fault(address));
+            }
+            level -= 1;
+            shift -= 9;
+            at = target(entry) + 8 * (address >> shift & 511);
         }
-        Err(fault(address))
     }
 }
