@@ -3,7 +3,7 @@ use mathlib.Core.Path.{_≡_, ap, _∙_}
 use mathlib.Core.List.{List, [], _∷_, _++_, append-nil}
 use Prim.Native.Nat.{ℕ, _+_, _≤_}
 use native.Mathlib.Omega.{arith}
-use lib.ListN.{length, take, drop, set, drop-of-length-le}
+use lib.ListN.{length, take, drop, drop-of-length-le}
 use lib.Seq.{sets, sets-eq, drop-at, length-take-le}
 use Rattle.stages.specs.declared.Read.{Read}
 use Rattle.stages.specs.Listed.{readWords}
@@ -20,7 +20,7 @@ behind out rs e n =
     ∙ drop-at (take 7 out) (readWords rs) 7 (length-take-le 7 out (omega arith))
 
 -- the answer's words and the count, written before what follows
-pub answer-written : (a : Answer) (count : ℕ) (out : List ℕ) → 7 ≤ length out → set (sets out 0 (answerWords a)) 6 count ≡ answerWords a ++ (count ∷ drop 7 out)
+pub answer-written : (x : Answer) (count : ℕ) (out : List ℕ) → 7 ≤ length out → sets out 0 (answerWords x ++ (count ∷ [])) ≡ answerWords x ++ (count ∷ drop 7 out)
 answer-written (Answer.Address m) count out h = sets-eq (answerWords (Answer.Address m) ++ (count ∷ [])) out 0 h
 answer-written (Answer.Refused number) count out h = sets-eq (answerWords (Answer.Refused number) ++ (count ∷ [])) out 0 h
 answer-written (Answer.Fault f) count out h = sets-eq (answerWords (Answer.Fault f) ++ (count ∷ [])) out 0 h

@@ -1,7 +1,8 @@
 // The word layout of a translation: the kind of access by number, and the result written into a slice.
 ghost use mathlib.Core.Path.{_≡_};
-ghost use mathlib.Core.List.{_∷_, _++_};
+ghost use mathlib.Core.List.{[], _∷_, _++_};
 ghost use lib.ListN.{length, drop};
+ghost use lib.Seq.{sets};
 ghost use Rattle.listing.specs.Listing.{answerWords, translationWords};
 ghost use Rattle.translate.specs.Translated.{translated};
 ghost use Rattle.listing.specs.Taken.{kindOf, putKind};
@@ -23,35 +24,42 @@ fn kind_of(n: u64) -> Kind
     Kind::Store
 }
 
-fn answer_words(a: Answer) -> [u64; 6]
-    ensures { λ r. ⌜ r ≡ answerWords a ⌝ }
+// The first seven words: what it came to, up to five words of it, and the count.
+fn put_seven(out: &mut [u64], to: u64, a: u64, b: u64, c: u64, d: u64, e: u64, count: u64)
+    requires { ⌜ length (now out) ≡ 67 ⌝ }
+    ensures { λ _. ⌜ now (out .exit) ≡ sets (now (out .entry)) 0 (to ∷ a ∷ b ∷ c ∷ d ∷ e ∷ count ∷ []) ⌝ }
 {
-    match a {
-        Answer::Address(m) => [0, m.0, 0, 0, 0, 0],
-        Answer::Refused(number) => [2, number, 0, 0, 0, 0],
-        Answer::Fault(f) => [
-            1,
-            f.cause,
-            f.value,
-            f.second,
-            f.word,
-            bits::select(f.flag, 1, 0),
-        ],
-    }
+    out[0] = to;
+    out[1] = a;
+    out[2] = b;
+    out[3] = c;
+    out[4] = d;
+    out[5] = e;
+    out[6] = count;
 }
 
 // The answer and the count, before the list.
-fn put_answer(a: Answer, count: u64, out: &mut [u64])
+fn put_answer(x: Answer, count: u64, out: &mut [u64])
     requires { ⌜ length (now out) ≡ 67 ⌝ }
-    ensures { λ _. ⌜ now (out .exit) ≡ answerWords a ++ (count ∷ drop 7 (now (out .entry))) ⌝ }
+    ensures { λ _. ⌜ now (out .exit) ≡ answerWords x ++ (count ∷ drop 7 (now (out .entry))) ⌝ }
 {
-    let ws = answer_words(a);
-    let mut i: usize = 0;
-    while i < 6 {
-        out[i] = ws[i];
-        i += 1;
+    match x {
+        Answer::Address(m) => put_seven(&mut *out, 0, m.0, 0, 0, 0, 0, count),
+        Answer::Refused(number) => put_seven(&mut *out, 2, number, 0, 0, 0, 0, count),
+        Answer::Fault(f) => {
+            let flag = bits::select(f.flag, 1, 0);
+            put_seven(
+                &mut *out,
+                1,
+                f.cause,
+                f.value,
+                f.second,
+                f.word,
+                flag,
+                count,
+            )
+        }
     }
-    out[6] = count;
 }
 
 // The translation of an access into a slice of the right length: the list where it stands, then the answer before it.

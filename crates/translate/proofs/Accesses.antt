@@ -9,7 +9,7 @@ use lib.Dec.{eqb}
 use lib.ListN.{length}
 use borrow.Author.Tests.{eqb-true, not-false}
 use Rattle.bits.specs.Field.{pick, get}
-use Rattle.bits.proofs.Bools.{clash, pick-both, or-left, or-right}
+use Rattle.bits.proofs.Bools.{clash, pick-both, or-true, or-false, or-left, or-right}
 use Rattle.bits.proofs.Fields.{get-lt}
 use Rattle.registers.specs.Fields.{MODE, PPN}
 use Rattle.registers.specs.Places.{satp, vsatp, hgatp}
@@ -19,6 +19,7 @@ use Rattle.image.specs.Image.{unfit}
 use Rattle.image.proofs.Tests.{fit}
 use Rattle.rules.specs.declared.Kind.{Kind}
 use Rattle.rules.specs.declared.Kind.the-variants.{Fetch, Load, Store}
+use Rattle.rules.specs.Kind.{by}
 use Rattle.access.specs.declared.Access.{Access}
 use Rattle.access.specs.declared.Machine.{Machine}
 use Rattle.access.specs.declared.Root.{Root}
@@ -40,6 +41,20 @@ use Rattle.translate.specs.Translated.{known, unsupported, misaligned, a
 pub known-width : (kind : Kind) (address width : ℕ) → unsupported kind address width ≡ false → known width ≡ true
 unfolding unsupported
 known-width kind address width h = not-false (known width) (or-left (not (known width)) _ h)
+
+-- a fetch of 4 bytes has a known width
+four-known : (one two four eight x : Bool) → (not four || x) ≡ (not (one || two || four || eight) || (not four || x))
+four-known true two four eight x = refl
+four-known false true four eight x = refl
+four-known false false true eight x = refl
+four-known false false false eight x = sym (or-true (not eight))
+
+pub unsupported-code : (kind : Kind) (address width : ℕ)
+    → by kind (not (eqb width 4) || not (eqb (address % 4) 0)) (not (known width)) (not (known width)) ≡ unsupported kind address width
+unfolding unsupported
+unsupported-code Fetch address width = four-known (eqb width 1) (eqb width 2) (eqb width 4) (eqb width 8) (not (eqb (address % 4) 0))
+unsupported-code Load address width = sym (or-false (not (known width)))
+unsupported-code Store address width = sym (or-false (not (known width)))
 
 -- what holds of each width holds of a known one
 each-width : (P : ℕ → Type 0) → P 1 → P 2 → P 4 → P 8 → (width : ℕ) → known width ≡ true → P width

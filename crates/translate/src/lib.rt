@@ -31,13 +31,13 @@ pub struct Translated {
     pub count: usize,
 }
 
-// Whether an access is refused as 3.
+// Whether an access is refused as 3. (A fetch of 4 bytes has a known width.)
 fn refused(kind: Kind, address: u64, width: u64) -> bool
     ensures { λ r. ⌜ r ≡ unsupported kind address width ⌝ }
 {
     let known = (width == 1) | (width == 2) | (width == 4) | (width == 8);
     let fetch = !(width == 4) | !(address % 4 == 0);
-    !known | kind.test(fetch, false, false)
+    kind.test(fetch, !known, !known)
 }
 
 // Whether a load or store of a known width is misaligned. A known width is a power of two: its remainder is the bits below it.
