@@ -1,5 +1,5 @@
 -- One entry's read, at either stage; the second stage's loop: what is left, from an entry on, is the whole. Assumes nothing.
-use mathlib.Core.Path.{_≡_, refl, sym, _∙_}
+use mathlib.Core.Path.{_≡_, refl}
 use mathlib.Core.Bool.{true, false}
 use mathlib.Core.List.{List}
 use Prim.Native.Nat.{ℕ, zero, suc, _+_, _-_, _*_, _<_, _≤_}
@@ -11,7 +11,7 @@ use Rattle.image.specs.declared.Entry.{Entry}
 use Rattle.image.specs.declared.Entry.the-variants.{Value, Outside}
 use Rattle.rules.specs.declared.Judgement.{Judgement}
 use Rattle.rules.specs.declared.Judgement.the-variants.{Pointer, Leaf, Bad}
-use Rattle.rules.specs.Address.{wellFormed, second, number, indexBits, index}
+use Rattle.rules.specs.Address.{wellFormed, second, indexBits, index}
 use Rattle.rules.specs.Entry.{judged}
 use Rattle.rules.proofs.Indices.{below-root}
 use Rattle.rules.proofs.Judgements.{pointer-bounds}
@@ -19,7 +19,7 @@ use Rattle.access.specs.declared.Access.{Access}
 use Rattle.access.specs.declared.Guest.{Guest}
 use Rattle.access.specs.declared.Machine.{Machine}
 use Rattle.access.specs.Faults.{accessFault}
-use Rattle.stages.specs.Tree.{Walk, bind}
+use Rattle.stages.specs.Tree.{bind}
 use Rattle.stages.specs.Stages.{Result, yields, faults, Translation, _then_, slot, follow, inspect, down, translation, machine}
 use Rattle.stages.proofs.Trees.{begin-off, begin-at}
 use Rattle.engine.specs.Words.{Into, onto, stored, into}

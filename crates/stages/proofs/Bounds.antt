@@ -1,7 +1,7 @@
 -- How many entries a walk reads: bounds compose. Assumes nothing.
 use mathlib.Core.Path.{_≡_}
 use mathlib.Core.Bool.{Bool, true, false}
-use Prim.Native.Nat.{ℕ, zero, suc, _+_, _-_, _*_, _≤_, _<_, zero-le, suc-le-suc}
+use Prim.Native.Nat.{ℕ, zero, suc, _+_, _-_, _*_, _≤_, zero-le, suc-le-suc}
 use native.Mathlib.Nat.{add-comm, suc-add, zero-mul, suc-mul, add-zero, mul-one}
 use native.Mathlib.Omega.{arith}
 use lib.ListN.{length}
@@ -38,11 +38,6 @@ within-run {A} look (ask s l m outside k) (suc n) h = go (look m) (within-run lo
         → length (found e (run look outside) (λ v. listed (item s l m v) (run look (k v))) .reads) ≤ suc n
     go Outside io ik = io
     go (Value v) io ik = suc-le-suc (ik v)
-
--- one question is asked, and what follows asks one less
-pub within-ask : {A : Type 0} (s l : ℕ) (m : Machine) (outside : Walk A) (k : ℕ → Walk A) (n : ℕ) → Within (ask s l m outside k) n → (0 < n) × ((v : ℕ) → Within (k v) (n - 1))
-within-ask s l m outside k zero h = absurd h
-within-ask s l m outside k (suc n) h = let e : suc n - 1 ≡ n = omega arith in (omega arith, rw e (h .1))
 
 pub within-more : {A : Type 0} (w : Walk A) (n j : ℕ) → Within w n → Within w (n + j)
 within-more (done a) n j h = tt

@@ -1,5 +1,5 @@
 use mathlib.Core.Path.{_≡_, sym, _∙_}
-use Prim.Native.Nat.{_+_, _-_, _<_, _≤_}
+use Prim.Native.Nat.{_+_, _-_, _≤_}
 use native.Mathlib.Omega.{arith}
 use lib.Dec.{eqb}
 use lib.ListN.{length}
@@ -10,7 +10,6 @@ use Rattle.bits.proofs.Bools.{and-left, and-right}
 use Rattle.image.specs.declared.Entry.the-variants.{Value}
 use Rattle.rules.specs.Entry.{judged}
 use Rattle.rules.proofs.Judgements.{pointer-bounds}
-use Rattle.access.specs.declared.Machine.{Machine}
 use Rattle.access.specs.Needs.{firstNeed}
 use Rattle.stages.specs.Stages.{yields, look}
 use Rattle.engine.specs.Written.{result}

@@ -1,11 +1,9 @@
-use mathlib.Core.Path.{ap, _∙_}
-use mathlib.Core.List.{List}
-use Prim.Native.Nat.{ℕ}
+use mathlib.Core.Path.{ap}
 use native.Mathlib.Omega.{arith}
 use denote.Ref.{now}
 use lib.ListN.{length}
 use borrow.Author.Needs.{needs}
-use Rattle.image.specs.Image.{eight, entry}
+use Rattle.image.specs.Image.{entry}
 use Rattle.image.specs.declared.Entry.the-variants.{Value}
 use Rattle.image.proofs.Tests.{below-limit, past-limit}
 use Rattle.image.proofs.fetch_below.Statement.{statement}

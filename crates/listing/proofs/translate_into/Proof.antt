@@ -1,11 +1,10 @@
-use mathlib.Core.Path.{_≡_, refl, sym, ap, _∙_}
+use mathlib.Core.Path.{refl, sym, ap, _∙_}
 use mathlib.Core.List.{List, _∷_, _++_}
 use Prim.Native.Nat.{ℕ, _≤_}
 use native.Mathlib.Omega.{arith}
-use lib.ListN.{length, drop}
+use lib.ListN.{length}
 use denote.Ref.{now}
 use borrow.Author.Needs.{needs}
-use Rattle.access.specs.declared.Access.{Access}
 use Rattle.stages.specs.Tree.{run}
 use Rattle.stages.specs.Stages.{look, walkOf}
 use Rattle.stages.specs.Listed.{unused, padded}
@@ -13,7 +12,7 @@ use Rattle.stages.proofs.Bounds.{at-most}
 use Rattle.stages.proofs.Words.{length-padded}
 use Rattle.engine.proofs.Places.{fifteen}
 use Rattle.translate.specs.Translated.{answer}
-use Rattle.translate.proofs.Accesses.{Walking, at-once, walking}
+use Rattle.translate.proofs.Accesses.{at-once, walking}
 use Rattle.listing.specs.Listing.{answerWords, translationWords}
 use Rattle.listing.proofs.Words.{behind}
 use Rattle.listing.proofs.translate_into.Statement.{statement}
