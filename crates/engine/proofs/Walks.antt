@@ -28,9 +28,10 @@ use Rattle.stages.specs.Tree.{done, bind}
 use Rattle.stages.specs.Stages.{Result, yields, faults, onward, _then_, slot, follow, inspect, down, translation, guest, second-of, first-of, last, final, walkOf}
 use Rattle.stages.proofs.Trees.{then-assoc, begin-off, begin-at}
 use Rattle.stages.proofs.Bounds.{Within, within-begin}
-use Rattle.engine.specs.Words.{Into, onto, stored, into}
-use Rattle.engine.specs.Place.{second-at, below, arrived, entered, reach, startGuest, strays}
-use Rattle.engine.proofs.Descents.{down-at, below-at}
+use Rattle.second_stage.specs.Words.{Into, onto, stored, into}
+use Rattle.second_stage.specs.Place.{second-at, below}
+use Rattle.engine.specs.Place.{arrived, entered, reach, startGuest, strays}
+use Rattle.second_stage.proofs.Descents.{down-at, below-at}
 use Rattle.engine.proofs.Runs.{into-bind, into-room}
 
 positive : (n : ℕ) → eqb n 0 ≡ false → 0 < n

@@ -6,20 +6,10 @@ use lib.ListN.{length}
 use lib.Seq.{sets}
 use Rattle.access.specs.declared.Machine.{Machine}
 use Rattle.stages.specs.Tree.{Ran}
-use Rattle.stages.specs.Stages.{Result, yields, faults}
+use Rattle.stages.specs.Stages.{Result}
 use Rattle.stages.specs.Listed.{padded, readWords}
-use Rattle.engine.specs.declared.Reached.{Reached}
-use Rattle.engine.specs.declared.Reached.the-variants.{At, Failed}
+use Rattle.second_stage.specs.Words.{result}
 use Rattle.engine.specs.declared.Listed.{Listed}
-
--- a walk's result as the code has it, and back
-abbrev pub reached : Result Machine → Reached
-reached (yields m) = At m
-reached (faults f) = Failed f
-
-abbrev pub result : Reached → Result Machine
-result (At m) = yields m
-result (Failed f) = faults f
 
 pub record Written (ran : Ran (Result Machine)) (places from : ℕ) (before after : List ℕ) (r : Listed) : Type 0 where
   pub words : after ≡ sets before from (readWords (padded places (ran .reads)))

@@ -26,8 +26,8 @@ use Rattle.access.specs.declared.Root.{Root}
 use Rattle.access.specs.Faults.{misalignment}
 use Rattle.stages.specs.Tree.{run}
 use Rattle.stages.specs.Stages.{Result, yields, faults, look, walkOf}
-use Rattle.engine.specs.Place.{Tables}
-use Rattle.engine.specs.Written.{reached, result}
+use Rattle.second_stage.specs.Place.{Tables}
+use Rattle.second_stage.specs.Words.{reached, result}
 use Rattle.effective.specs.declared.Mode.{Mode}
 use Rattle.effective.specs.Effective.{effective, root, off, firstRoot, secondRoot, accessOf}
 use Rattle.translate.specs.declared.Answer.{Answer}

@@ -1,15 +1,15 @@
 // The translation of an access on a hart: refusals, misalignment and the walk.
 ghost use mathlib.Core.Path.{_≡_};
 ghost use mathlib.Core.Bool.{true};
-ghost use Rattle.engine.specs.Written.{result};
+ghost use Rattle.second_stage.specs.Words.{result};
 ghost use Rattle.translate.specs.Start.{startOf};
 ghost use Rattle.translate.specs.Translated.{known, unsupported, misaligned, answer, translated};
 use access::Access;
 use access::Machine;
-use engine::Reached;
 use exceptions::Exception;
 use hart::state::Hart;
 use rules::Kind;
+use second_stage::Reached;
 use stages::Read;
 
 pub enum Answer {

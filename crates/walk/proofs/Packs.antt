@@ -11,9 +11,9 @@ use Rattle.stages.specs.Tree.{item}
 use Rattle.stages.specs.Stages.{machine}
 use Rattle.stages.specs.Listed.{padded, readWords}
 use Rattle.stages.proofs.Words.{length-padded, length-words}
-use Rattle.engine.specs.declared.Reached.{Reached}
-use Rattle.engine.specs.declared.Reached.the-variants.{At, Failed}
-use Rattle.engine.specs.Written.{reached, result}
+use Rattle.second_stage.specs.declared.Reached.{Reached}
+use Rattle.second_stage.specs.declared.Reached.the-variants.{At, Failed}
+use Rattle.second_stage.specs.Words.{reached, result}
 use Rattle.walk.specs.Walked.{unpack}
 
 pub unpack-words : (rs : List Read) → unpack (readWords rs) ≡ rs

@@ -7,7 +7,7 @@ use Rattle.stages.specs.declared.Read.{Read}
 use Rattle.stages.specs.Tree.{Ran, item}
 use Rattle.stages.specs.Stages.{Result, machine}
 use Rattle.stages.specs.Listed.{places, padded}
-use Rattle.engine.specs.Written.{reached}
+use Rattle.second_stage.specs.Words.{reached}
 use Rattle.walk.specs.declared.Walked.{Walked}
 
 abbrev pub walked : Ran (Result Machine) → Walked

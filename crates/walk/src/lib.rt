@@ -5,11 +5,11 @@ ghost use lib.ListN.{length};
 ghost use Rattle.stages.specs.Tree.{run};
 ghost use Rattle.stages.specs.Stages.{look, walkOf};
 ghost use Rattle.stages.specs.Listed.{unused};
-ghost use Rattle.engine.specs.Place.{Tables};
+ghost use Rattle.second_stage.specs.Place.{Tables};
 ghost use Rattle.walk.specs.Walked.{unpack, walked};
 use access::Access;
 use access::Machine;
-use engine::Reached;
+use second_stage::Reached;
 use stages::Read;
 
 // What a walk comes to: the list of reads with their count, and its end.

@@ -9,8 +9,8 @@ use Rattle.access.specs.declared.Machine.{Machine}
 use Rattle.stages.specs.Tree.{Ran, run}
 use Rattle.stages.specs.Stages.{Result, look, walkOf}
 use Rattle.stages.proofs.Bounds.{at-most}
-use Rattle.engine.specs.Words.{Into, onto}
-use Rattle.engine.specs.Written.{result}
+use Rattle.second_stage.specs.Words.{Into, onto}
+use Rattle.second_stage.specs.Words.{result}
 use Rattle.engine.proofs.Runs.{written, into-run}
 use Rattle.engine.proofs.Zeros.{zeroed}
 use Rattle.engine.proofs.list.Statement.{statement}

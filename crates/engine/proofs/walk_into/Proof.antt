@@ -12,8 +12,8 @@ use Rattle.rules.specs.Entry.{judged}
 use Rattle.rules.proofs.Judgements.{pointer-bounds}
 use Rattle.access.specs.Needs.{firstNeed}
 use Rattle.stages.specs.Stages.{yields, look}
-use Rattle.engine.specs.Written.{result}
-use Rattle.engine.proofs.Descents.{off}
+use Rattle.second_stage.specs.Words.{result}
+use Rattle.second_stage.proofs.Descents.{off}
 use Rattle.engine.proofs.Walks.{Walks, Arrives, astray, start, arrives, failed, finished, has-room, outside, bad, leaf, further}
 use Rattle.engine.proofs.walk_into.Statement.{statement}
 use Rattle.engine.proofs.walk_into.Tie as tie
@@ -54,34 +54,34 @@ returns-2 c =
 loop-holds : tie.Need-loop-holds Inv-loop μ-loop
 loop-holds c = begins (c .before .before .before .before .before)
 
-second-requires : tie.Need-second-requires Inv-loop μ-loop
-second-requires c κs = (c .before .before .before .before .before .before .before .before .before .before .before .before .before .before .pre .0, c .before .before .before .before .before .before .before .before .before .before .before .limit .ensures, c .before .before .before .before .before .before .before .before .before .before .before .before .before .before .pre .1, omega (arith, c .before .loop .inv .room))
+walk-requires : tie.Need-walk-requires Inv-loop μ-loop
+walk-requires c κs = (c .before .before .before .before .before .before .before .before .before .before .before .before .before .before .pre .0, c .before .before .before .before .before .before .before .before .before .before .before .limit .ensures, c .before .before .before .before .before .before .before .before .before .before .before .before .before .before .pre .1, omega (arith, c .before .loop .inv .room))
 
 -- after the second stage
-arrival : (s : tie.After-second Inv-loop μ-loop) → let a = s .before .before .before .before .before .before .before .before .before .before .before .before .before .before .before .args in
-    Arrives (look (a .base) (now (a .bytes))) (a .base) (length (now (a .bytes))) (a .a) (now (a .out)) (a .from) (s .second .last .1 .1 .1 .1 .1 .1 .1 .0) (s .second .result .next) (s .before .before .loop .left) (result (s .second .result .reached))
+arrival : (s : tie.After-walk Inv-loop μ-loop) → let a = s .before .before .before .before .before .before .before .before .before .before .before .before .before .before .before .args in
+    Arrives (look (a .base) (now (a .bytes))) (a .base) (length (now (a .bytes))) (a .a) (now (a .out)) (a .from) (s .walk .last .1 .1 .1 .1 .1 .1 .1 .0) (s .walk .result .next) (s .before .before .loop .left) (result (s .walk .result .reached))
 arrival s =
     let a = s .before .before .before .before .before .before .before .before .before .before .before .before .before .before .before .args in
     let l = s .before .before .loop in
-    arrives (look (a .base) (now (a .bytes))) (a .base) (length (now (a .bytes))) (a .a) (now (a .out)) (a .from) (l .out) (l .next) (l .left) (l .guest) (l .inv) (s .second .last .1 .1 .1 .1 .1 .1 .1 .0) (s .second .result .next) _ (s .second .ensures)
+    arrives (look (a .base) (now (a .bytes))) (a .base) (length (now (a .bytes))) (a .a) (now (a .out)) (a .from) (l .out) (l .next) (l .left) (l .guest) (l .inv) (s .walk .last .1 .1 .1 .1 .1 .1 .1 .0) (s .walk .result .next) _ (s .walk .ensures)
 
 returns-3 : tie.Need-returns-3 Inv-loop μ-loop
 returns-3 c =
     let a = c .before .before .before .before .before .before .before .before .before .before .before .before .before .before .before .before .before .before .before .args in
     let s = c .before .before .before .before in
     rw (c .enum-told .given .1)
-    (failed (look (a .base) (now (a .bytes))) (a .base) (length (now (a .bytes))) (a .a) (now (a .out)) (a .from) _ (s .second .result .next) (s .before .before .loop .left) (c .enum-told .given .0 .0) (rw (c .enum-told .given .1) at (arrival s)))
+    (failed (look (a .base) (now (a .bytes))) (a .base) (length (now (a .bytes))) (a .a) (now (a .out)) (a .from) _ (s .walk .result .next) (s .before .before .loop .left) (c .enum-told .given .0 .0) (rw (c .enum-told .given .1) at (arrival s)))
 
 -- at a machine address
 reached : (r : tie.After-reached Inv-loop μ-loop) → let a = r .before .before .before .before .before .before .before .before .before .before .before .before .before .before .before .before .before .before .before .args in
-    Arrives (look (a .base) (now (a .bytes))) (a .base) (length (now (a .bytes))) (a .a) (now (a .out)) (a .from) (r .before .before .before .before .second .last .1 .1 .1 .1 .1 .1 .1 .0) (r .before .before .before .before .second .result .next) (r .before .before .before .before .before .before .loop .left) (yields (r .reached .given .0 .0))
+    Arrives (look (a .base) (now (a .bytes))) (a .base) (length (now (a .bytes))) (a .a) (now (a .out)) (a .from) (r .before .before .before .before .walk .last .1 .1 .1 .1 .1 .1 .1 .0) (r .before .before .before .before .walk .result .next) (r .before .before .before .before .before .before .loop .left) (yields (r .reached .given .0 .0))
 reached r = rw (r .reached .given .1) at (arrival (r .before .before .before .before))
 
 returns-4 : tie.Need-returns-4 Inv-loop μ-loop
 returns-4 c =
     let a = c .before .before .before .before .before .before .before .before .before .before .before .before .before .before .before .before .before .before .before .before .before .before .args in
     rw (c .conclude2 .ensures)
-    (finished (look (a .base) (now (a .bytes))) (a .base) (length (now (a .bytes))) (a .a) (now (a .out)) (a .from) _ (c .before .before .before .before .before .before .before .second .result .next) (c .before .before .before .before .before .before .before .before .before .loop .left) (c .before .before .before .reached .given .0 .0) (reached (c .before .before .before)) (c .before .if3 .taken))
+    (finished (look (a .base) (now (a .bytes))) (a .base) (length (now (a .bytes))) (a .a) (now (a .out)) (a .from) _ (c .before .before .before .before .before .before .before .walk .result .next) (c .before .before .before .before .before .before .before .before .before .loop .left) (c .before .before .before .reached .given .0 .0) (reached (c .before .before .before)) (c .before .if3 .taken))
 
 fetch-below-requires : tie.Need-fetch-below-requires Inv-loop μ-loop
 fetch-below-requires c κs = (c .before .before .before .before .before .before .before .before .before .before .before .before .before .before .before .before .before .before .before .before .before .pre .0, c .before .before .before .before .before .before .before .before .before .before .before .before .before .before .before .before .before .before .limit .ensures)
@@ -90,13 +90,13 @@ returns-5 : tie.Need-returns-5 Inv-loop μ-loop
 returns-5 c =
     let a = c .before .before .before .before .before .before .before .before .before .before .before .before .before .before .before .before .before .before .before .before .before .before .before .before .before .args in
     rw (c .access-fault .ensures)
-    (outside (look (a .base) (now (a .bytes))) (a .base) (length (now (a .bytes))) (a .a) (now (a .out)) (a .from) _ (c .before .before .before .before .before .before .before .before .before .before .second .result .next) (c .before .before .before .before .before .before .before .before .before .before .before .before .loop .left) (c .before .before .before .before .before .before .reached .given .0 .0) (reached (c .before .before .before .before .before .before)) (omega (arith, c .before .before .before .before .if3 .left)) (sym (c .before .before .before .fetch-below .ensures) ∙ c .before .enum-told2 .given .1))
+    (outside (look (a .base) (now (a .bytes))) (a .base) (length (now (a .bytes))) (a .a) (now (a .out)) (a .from) _ (c .before .before .before .before .before .before .before .before .before .before .walk .result .next) (c .before .before .before .before .before .before .before .before .before .before .before .before .loop .left) (c .before .before .before .before .before .before .reached .given .0 .0) (reached (c .before .before .before .before .before .before)) (omega (arith, c .before .before .before .before .if3 .left)) (sym (c .before .before .before .fetch-below .ensures) ∙ c .before .enum-told2 .given .1))
 
 -- a read's words fit
-room : (e : tie.After-e Inv-loop μ-loop) → e .before .before .before .before .before .before .before .before .before .second .result .next + 4 ≤ length (e .before .before .before .before .before .before .before .before .before .second .last .1 .1 .1 .1 .1 .1 .1 .0)
+room : (e : tie.After-e Inv-loop μ-loop) → e .before .before .before .before .before .before .before .before .before .walk .result .next + 4 ≤ length (e .before .before .before .before .before .before .before .before .before .walk .last .1 .1 .1 .1 .1 .1 .1 .0)
 room e =
     let a = e .before .before .before .before .before .before .before .before .before .before .before .before .before .before .before .before .before .before .before .before .before .before .before .before .args in
-    has-room (look (a .base) (now (a .bytes))) (a .base) (length (now (a .bytes))) (a .a) (now (a .out)) (a .from) _ (e .before .before .before .before .before .before .before .before .before .second .result .next) (e .before .before .before .before .before .before .before .before .before .before .before .loop .left) (e .before .before .before .before .before .reached .given .0 .0) (reached (e .before .before .before .before .before)) (omega (arith, e .before .before .before .if3 .left))
+    has-room (look (a .base) (now (a .bytes))) (a .base) (length (now (a .bytes))) (a .a) (now (a .out)) (a .from) _ (e .before .before .before .before .before .before .before .before .before .walk .result .next) (e .before .before .before .before .before .before .before .before .before .before .before .loop .left) (e .before .before .before .before .before .reached .given .0 .0) (reached (e .before .before .before .before .before)) (omega (arith, e .before .before .before .if3 .left))
 
 put-requires : tie.Need-put-requires Inv-loop μ-loop
 put-requires c κs = omega (arith, room (c .before .before))
@@ -118,7 +118,7 @@ returns-6 : tie.Need-returns-6 Inv-loop μ-loop
 returns-6 c =
     let a = c .before .before .before .before .before .before .before .before .before .before .before .before .before .before .before .before .before .before .before .before .before .before .before .before .before .before .before .before .before .before .before .before .before .args in
     rw (c .page-fault2 .ensures, c .before .before .before .before .before .before .put .ensures)
-    (bad (look (a .base) (now (a .bytes))) (a .base) (length (now (a .bytes))) (a .a) (now (a .out)) (a .from) _ (c .before .before .before .before .before .before .before .before .before .before .before .before .before .before .before .before .before .before .second .result .next) (c .before .before .before .before .before .before .before .before .before .before .before .before .before .before .before .before .before .before .before .before .loop .left) (c .before .before .before .before .before .before .before .before .before .before .before .before .before .before .reached .given .0 .0) (reached (c .before .before .before .before .before .before .before .before .before .before .before .before .before .before)) (omega (arith, c .before .before .before .before .before .before .before .before .before .before .before .before .if3 .left)) _ (seen (c .before .before .before)) (judgement (c .before .before .before) ∙ c .before .enum-told3 .given .1))
+    (bad (look (a .base) (now (a .bytes))) (a .base) (length (now (a .bytes))) (a .a) (now (a .out)) (a .from) _ (c .before .before .before .before .before .before .before .before .before .before .before .before .before .before .before .before .before .before .walk .result .next) (c .before .before .before .before .before .before .before .before .before .before .before .before .before .before .before .before .before .before .before .before .loop .left) (c .before .before .before .before .before .before .before .before .before .before .before .before .before .before .reached .given .0 .0) (reached (c .before .before .before .before .before .before .before .before .before .before .before .before .before .before)) (omega (arith, c .before .before .before .before .before .before .before .before .before .before .before .before .if3 .left)) _ (seen (c .before .before .before)) (judgement (c .before .before .before) ∙ c .before .enum-told3 .given .1))
 
 loop-less : tie.Need-loop-less Inv-loop μ-loop
 loop-less c = omega (arith, c .before .before .before .before .before .before .before .before .before .before .before .before .if3 .left)
@@ -127,7 +127,7 @@ loop-again : tie.Need-loop-again Inv-loop μ-loop
 loop-again c =
     let a = c .before .before .before .before .before .before .before .before .before .before .before .before .before .before .before .before .before .before .before .before .before .before .before .before .before .before .before .before .before .before .before .before .before .args in
     rw (c .before .before .before .before .before .before .put .ensures)
-    (leaf (look (a .base) (now (a .bytes))) (a .base) (length (now (a .bytes))) (a .a) (now (a .out)) (a .from) _ (c .before .before .before .before .before .before .before .before .before .before .before .before .before .before .before .before .before .before .second .result .next) (c .before .before .before .before .before .before .before .before .before .before .before .before .before .before .before .before .before .before .before .before .loop .left) (c .before .before .before .before .before .before .before .before .before .before .before .before .before .before .reached .given .0 .0) (reached (c .before .before .before .before .before .before .before .before .before .before .before .before .before .before)) (omega (arith, c .before .before .before .before .before .before .before .before .before .before .before .before .if3 .left)) _ (seen (c .before .before .before)) _ (judgement (c .before .before .before) ∙ c .before .j .given .1))
+    (leaf (look (a .base) (now (a .bytes))) (a .base) (length (now (a .bytes))) (a .a) (now (a .out)) (a .from) _ (c .before .before .before .before .before .before .before .before .before .before .before .before .before .before .before .before .before .before .walk .result .next) (c .before .before .before .before .before .before .before .before .before .before .before .before .before .before .before .before .before .before .before .before .loop .left) (c .before .before .before .before .before .before .before .before .before .before .before .before .before .before .reached .given .0 .0) (reached (c .before .before .before .before .before .before .before .before .before .before .before .before .before .before)) (omega (arith, c .before .before .before .before .before .before .before .before .before .before .before .before .if3 .left)) _ (seen (c .before .before .before)) _ (judgement (c .before .before .before) ∙ c .before .j .given .1))
 
 sub-index : tie.Need-sub-index Inv-loop μ-loop
 sub-index c = omega (arith, pointer-bounds _ _ _ _ _ (judgement (c .before .before .before) ∙ c .before .j2 .given .1) .0)
@@ -145,14 +145,14 @@ loop-again-2 : tie.Need-loop-again-2 Inv-loop μ-loop
 loop-again-2 c =
     let a = c .before .before .before .before .before .before .before .before .before .before .before .before .before .before .before .before .before .before .before .before .before .before .before .before .before .before .before .before .before .before .before .before .before .before .args in
     rw (c .before .before .before .before .before .before .before .put .ensures)
-    (further (look (a .base) (now (a .bytes))) (a .base) (length (now (a .bytes))) (a .a) (now (a .out)) (a .from) _ (c .before .before .before .before .before .before .before .before .before .before .before .before .before .before .before .before .before .before .before .second .result .next) (c .before .before .before .before .before .before .before .before .before .before .before .before .before .before .before .before .before .before .before .before .before .loop .left) (c .before .before .before .before .before .before .before .before .before .before .before .before .before .before .before .reached .given .0 .0) (reached (c .before .before .before .before .before .before .before .before .before .before .before .before .before .before .before)) (omega (arith, c .before .before .before .before .before .before .before .before .before .before .before .before .before .if3 .left)) _ (seen (c .before .before .before .before)) _ (judgement (c .before .before .before .before) ∙ c .before .before .j2 .given .1) (c .index .result) (c .index .ensures .0))
+    (further (look (a .base) (now (a .bytes))) (a .base) (length (now (a .bytes))) (a .a) (now (a .out)) (a .from) _ (c .before .before .before .before .before .before .before .before .before .before .before .before .before .before .before .before .before .before .before .walk .result .next) (c .before .before .before .before .before .before .before .before .before .before .before .before .before .before .before .before .before .before .before .before .before .loop .left) (c .before .before .before .before .before .before .before .before .before .before .before .before .before .before .before .reached .given .0 .0) (reached (c .before .before .before .before .before .before .before .before .before .before .before .before .before .before .before)) (omega (arith, c .before .before .before .before .before .before .before .before .before .before .before .before .before .if3 .left)) _ (seen (c .before .before .before .before)) _ (judgement (c .before .before .before .before) ∙ c .before .before .j2 .given .1) (c .index .result) (c .index .ensures .0))
 
 pub walk-into-spec : {M : Type 1} → statement M
 walk-into-spec =
     tie.close
     (tie.spec
     Inv-loop μ-loop (λ c κs. search needs) (λ c κs. search needs) (λ c κs. search needs) returns (λ c κs. search needs) (λ c κs. search needs)
-    (λ c κs. search needs) returns-2 (λ c κs. search needs) (λ c κs. search needs) loop-holds second-requires (λ c. search needs) (λ c. search needs)
+    (λ c κs. search needs) returns-2 (λ c κs. search needs) (λ c κs. search needs) loop-holds walk-requires (λ c. search needs) (λ c. search needs)
     (λ c. search needs) returns-3 (λ c κs. search needs) (λ c. search needs) returns-4 fetch-below-requires (λ c. search needs) (λ c. search needs)
     (λ c κs. search needs) (λ c. search needs) returns-5 (λ c. search needs) put-requires add-next judge-requires (λ c. search needs)
     (λ c κs. search needs) (λ c. search needs) returns-6 (λ c. search needs) loop-less loop-again (λ c. search needs) sub-index index-requires

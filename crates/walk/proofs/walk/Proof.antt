@@ -6,7 +6,7 @@ use borrow.Author.Needs.{needs}
 use Rattle.stages.specs.Tree.{run}
 use Rattle.stages.specs.Stages.{look, walkOf}
 use Rattle.stages.proofs.Bounds.{at-most}
-use Rattle.engine.specs.Written.{reached}
+use Rattle.second_stage.specs.Words.{reached}
 use Rattle.engine.proofs.Places.{fifteen}
 use Rattle.walk.specs.Walked.{unpack}
 use Rattle.walk.proofs.Packs.{handed, same-reached}

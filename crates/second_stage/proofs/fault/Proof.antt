@@ -1,7 +1,7 @@
 use borrow.Author.Needs.{needs}
 use borrow.Author.Tests.{eq-eqb, ne-eqb}
-use Rattle.engine.proofs.fault.Statement.{statement}
-use Rattle.engine.proofs.fault.Tie as tie
+use Rattle.second_stage.proofs.fault.Statement.{statement}
+use Rattle.second_stage.proofs.fault.Tie as tie
 
 returns : tie.Need-returns
 returns c = rw (c .guest-page-fault .ensures, eq-eqb _ _ (c .before .if1 .taken))

@@ -7,10 +7,10 @@ use Rattle.image.specs.declared.Entry.the-variants.{Value}
 use Rattle.rules.specs.Entry.{judged}
 use Rattle.rules.proofs.Judgements.{pointer-bounds}
 use Rattle.stages.specs.Stages.{look, machine}
-use Rattle.engine.specs.Place.{needAt}
-use Rattle.engine.proofs.Descents.{Descends, off, too-large, from-root, outside, bad, leaf, further}
-use Rattle.engine.proofs.second.Statement.{statement}
-use Rattle.engine.proofs.second.Tie as tie
+use Rattle.second_stage.specs.Place.{needAt}
+use Rattle.second_stage.proofs.Descents.{Descends, off, too-large, from-root, outside, bad, leaf, further}
+use Rattle.second_stage.proofs.walk.Statement.{statement}
+use Rattle.second_stage.proofs.walk.Tie as tie
 
 abbrev Inv-loop : tie.InvT-loop
 Inv-loop base limit bytes a left guest from out₀ levels address next₀ t level₀ at₀ out next level at = Descends (look base bytes) a left guest out₀ from out next level at
@@ -88,8 +88,8 @@ loop-again c =
     rw (c .before .before .before .before .before .before .before .put .ensures)
     (further (look (a .base) (now (a .bytes))) (a .a) (a .left) (a .guest) (now (a .out)) (a .from) (l .out) (l .next) (l .level) (l .at) (l .inv) _ (seen (c .before .before .before .before)) _ (judgement (c .before .before .before .before) ∙ c .before .before .j2 .given .1) (c .index .result) (c .index .ensures .0))
 
-pub second-spec : {M : Type 1} → statement M
-second-spec =
+pub walk-spec : {M : Type 1} → statement M
+walk-spec =
     tie.close
     (tie.spec
     Inv-loop μ-loop (λ c κs. search needs) returns (λ c κs. search needs) (λ c κs. search needs) returns-2 (λ c κs. search needs) (λ c. search needs) (λ c. search needs)

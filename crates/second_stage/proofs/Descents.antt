@@ -22,8 +22,8 @@ use Rattle.access.specs.Faults.{accessFault}
 use Rattle.stages.specs.Tree.{bind}
 use Rattle.stages.specs.Stages.{Result, yields, faults, Translation, _then_, slot, follow, inspect, down, translation, machine}
 use Rattle.stages.proofs.Trees.{begin-off, begin-at}
-use Rattle.engine.specs.Words.{Into, onto, stored, into}
-use Rattle.engine.specs.Place.{needAt, faultAt, second-at, below}
+use Rattle.second_stage.specs.Words.{Into, onto, stored, into}
+use Rattle.second_stage.specs.Place.{needAt, faultAt, second-at, below}
 
 -- ---- one entry, at either stage
 

@@ -2,8 +2,8 @@ use native.Mathlib.Omega.{arith}
 use native.Mathlib.Numerals.{towards-suc}
 use lib.ListN.{length-set}
 use borrow.Author.Needs.{needs}
-use Rattle.engine.proofs.put.Statement.{statement}
-use Rattle.engine.proofs.put.Tie as tie
+use Rattle.second_stage.proofs.put.Statement.{statement}
+use Rattle.second_stage.proofs.put.Tie as tie
 
 slice-write-out-2 : tie.Need-slice-write-out-2
 slice-write-out-2 c = simp length-set (omega arith)

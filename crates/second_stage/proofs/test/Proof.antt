@@ -1,7 +1,7 @@
 use borrow.Author.Needs.{needs}
 use borrow.Author.Tests.{eq-eqb, ne-eqb}
-use Rattle.engine.proofs.test.Statement.{statement}
-use Rattle.engine.proofs.test.Tie as tie
+use Rattle.second_stage.proofs.test.Statement.{statement}
+use Rattle.second_stage.proofs.test.Tie as tie
 
 returns : tie.Need-returns
 returns c = rw (c .test .ensures, c .before .second-need .ensures, eq-eqb _ _ (c .before .before .if1 .taken))

@@ -1,10 +1,22 @@
--- A walk's run into the words of a slice, from an index on, as code goes. Serves contracts below the public face.
+-- A walk's end as the code has it, and its run into the words of a slice, from an index on. Serves contracts below the public face.
 use mathlib.Core.List.{List, [], _∷_}
 use Prim.Native.Nat.{ℕ, _+_}
 use lib.Seq.{sets}
 use Rattle.image.specs.declared.Entry.{Entry}
 use Rattle.access.specs.declared.Machine.{Machine}
 use Rattle.stages.specs.Tree.{Walk, done, ask, found}
+use Rattle.stages.specs.Stages.{Result, yields, faults}
+use Rattle.second_stage.specs.declared.Reached.{Reached}
+use Rattle.second_stage.specs.declared.Reached.the-variants.{At, Failed}
+
+-- a walk's result as the code has it, and back
+abbrev pub reached : Result Machine → Reached
+reached (yields m) = At m
+reached (faults f) = Failed f
+
+abbrev pub result : Reached → Result Machine
+result (At m) = yields m
+result (Failed f) = faults f
 
 -- what a slice holds, the index behind the last read's words, and the walk's end
 pub record Into (A : Type 0) : Type 0 where
