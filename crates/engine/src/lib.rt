@@ -75,17 +75,17 @@ fn walk_into(base: u64, bytes: &[u8], a: Access, from: usize, out: &mut [u64]) -
     let mut next = from;
     if strays(a) {
         return Progress {
-            next: next,
+            next,
             reached: Reached::Failed(a.page_fault()),
         };
     }
     let mut left = tables.levels;
     let mut guest = start(a);
     let second_tables = a.second;
-    // neither stage is on
+    // neither stage is on: nothing is read, as the loop would find
     if (left == 0) & (second_tables.levels == 0) {
         return Progress {
-            next: next,
+            next,
             reached: conclude(base, len, a, passed(guest)),
         };
     }
@@ -95,21 +95,18 @@ fn walk_into(base: u64, bytes: &[u8], a: Access, from: usize, out: &mut [u64]) -
         next = s.next;
         let reached = s.reached;
         let Reached::At(m) = reached else {
-            return Progress {
-                next: next,
-                reached: reached,
-            };
+            return Progress { next, reached };
         };
         if left == 0 {
             return Progress {
-                next: next,
+                next,
                 reached: conclude(base, len, a, m),
             };
         }
         let at = m.0;
         let Entry::Value(e) = fetch_below(base, limit, bytes, at) else {
             return Progress {
-                next: next,
+                next,
                 reached: Reached::Failed(a.access_fault()),
             };
         };
@@ -120,7 +117,7 @@ fn walk_into(base: u64, bytes: &[u8], a: Access, from: usize, out: &mut [u64]) -
         match j {
             Judgement::Bad => {
                 return Progress {
-                    next: next,
+                    next,
                     reached: Reached::Failed(a.page_fault()),
                 };
             }
@@ -165,6 +162,6 @@ pub fn list(
     clear(next, from + 4 * places, &mut *out);
     Listed {
         count: (next - from) / 4,
-        reached: reached,
+        reached,
     }
 }

@@ -85,13 +85,13 @@ pub fn walk(
     let mut next = from;
     if levels == 0 {
         return Progress {
-            next: next,
+            next,
             reached: Reached::At(passed(guest)),
         };
     }
     if !rules::is_small(levels, address) {
         return Progress {
-            next: next,
+            next,
             reached: Reached::Failed(fault(a, left, guest)),
         };
     }
@@ -101,7 +101,7 @@ pub fn walk(
     loop {
         let Entry::Value(e) = fetch_below(base, limit, bytes, at) else {
             return Progress {
-                next: next,
+                next,
                 reached: Reached::Failed(a.access_fault()),
             };
         };
@@ -111,13 +111,13 @@ pub fn walk(
         match j {
             Judgement::Bad => {
                 return Progress {
-                    next: next,
+                    next,
                     reached: Reached::Failed(fault(a, left, guest)),
                 };
             }
             Judgement::Leaf(x) => {
                 return Progress {
-                    next: next,
+                    next,
                     reached: Reached::At(Machine(x)),
                 };
             }

@@ -105,7 +105,7 @@ pub fn translate(
             Translated {
                 hart: h,
                 answer: answered(reached),
-                reads: reads,
+                reads,
                 count: w.count,
             }
         }

@@ -61,8 +61,8 @@ pub fn walk(base: u64, bytes: &[u8], a: Access) -> Walked
     let reached = w.reached;
     let reads = pack(&words);
     Walked {
-        reads: reads,
+        reads,
         count: w.count,
-        reached: reached,
+        reached,
     }
 }
