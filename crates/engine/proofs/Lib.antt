@@ -1,4 +1,3 @@
-pub mod Runs
 pub mod Zeros
 pub mod Walks
 pub mod Places

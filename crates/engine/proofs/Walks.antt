@@ -32,7 +32,7 @@ use Rattle.second_stage.specs.Words.{Into, onto, stored, into}
 use Rattle.second_stage.specs.Place.{second-at, below}
 use Rattle.engine.specs.Place.{arrived, entered, reach, startGuest, strays}
 use Rattle.second_stage.proofs.Descents.{down-at, below-at}
-use Rattle.engine.proofs.Runs.{into-bind, into-room}
+use Rattle.second_stage.proofs.Runs.{into-bind, into-room}
 
 positive : (n : ℕ) → eqb n 0 ≡ false → 0 < n
 positive n p = omega (arith, eqb-false n 0 p)
@@ -106,14 +106,15 @@ module _ (look : Machine → Entry) (base len : ℕ) (a : Access) (out₀ : List
   pub start : strays a ≡ false → from + 4 * reach a (a .first .levels) ≤ length out₀ → Walks out₀ from (a .first .levels) (startGuest a)
   start t h = record { same = rw (begins base len a t); depth = le-refl (a .first .levels); room = h; size = refl }
 
-  within-second : (left : ℕ) (g : Guest) → Within (translation (second-at a left g)) (a .second .levels)
-  within-second left g = rw mul-one at (within-begin (second-at a left g) 0 (λ x. tt) (a .second .levels))
+within-second : (a : Access) (left : ℕ) (g : Guest) → Within (translation (second-at a left g)) (a .second .levels)
+within-second a left g = rw mul-one at (within-begin (second-at a left g) 0 (λ x. tt) (a .second .levels))
 
-  pub arrives : (out : List ℕ) (next left : ℕ) (g : Guest) → Walks out next left g
-      → (out′ : List ℕ) (next′ : ℕ) (o : Result Machine) → onto out′ next′ o ≡ into look (translation (second-at a left g)) out next → Arrives out′ next′ left o
+module _ {look : Machine → Entry} {base len : ℕ} {a : Access} {out₀ : List ℕ} {from : ℕ} where
+  pub arrives : {out : List ℕ} {next left : ℕ} {g : Guest} → Walks look base len a out₀ from out next left g
+      → {out′ : List ℕ} {next′ : ℕ} {o : Result Machine} → onto out′ next′ o ≡ into look (translation (second-at a left g)) out next → Arrives look base len a out₀ from out′ next′ left o
   unfolding entered
-  arrives out next left g w out′ next′ o e =
-      let r = rw (← e) at (into-room look (translation (second-at a left g)) (a .second .levels) (within-second left g) out next) in
+  arrives {out} {next} {left} {g} w e =
+      let r = rw (← e) at (into-room look (translation (second-at a left g)) (a .second .levels) (within-second a left g) out next) in
       let s = into-bind look (translation (second-at a left g)) (onward (arrived base len a left)) out next in
       record {
         same = sym (rw (← e) at s) ∙ w .same;
@@ -122,16 +123,17 @@ module _ (look : Machine → Entry) (base len : ℕ) (a : Access) (out₀ : List
         size = r .1 ∙ w .size;
       }
 
-  pub failed : (out : List ℕ) (next left : ℕ) (f : Exception) → Arrives out next left (faults f) → onto out next (faults f) ≡ all
+  pub failed : {out : List ℕ} {next left : ℕ} {f : Exception} → Arrives look base len a out₀ from out next left (faults f) → onto out next (faults f) ≡ all look base len a out₀ from
   unfolding into
-  failed out next left f h = h .same
+  failed h = h .same
 
-  pub finished : (out : List ℕ) (next left : ℕ) (m : Machine) → Arrives out next left (yields m) → left ≡ 0 → onto out next (last base len a m) ≡ all
+  pub finished : {out : List ℕ} {next left : ℕ} {m : Machine} → Arrives look base len a out₀ from out next left (yields m) → left ≡ 0 → onto out next (last base len a m) ≡ all look base len a out₀ from
   unfolding into arrived
-  finished out next left m h z = rw z at (h .same)
+  finished h z = rw z at (h .same)
 
-  module _ (out : List ℕ) (next left : ℕ) (m : Machine) (h : Arrives out next left (yields m)) (on : 0 < left) where
-    -- a read's words fit where a first-stage level is left
+  -- a first-stage entry
+  module _ {out : List ℕ} {next left : ℕ} {m : Machine} (h : Arrives look base len a out₀ from out next left (yields m)) (on : 0 < left) where
+    -- its words fit
     pub has-room : next + 4 ≤ length out
     has-room =
         let p : 1 * suc (a .second .levels) ≤ left * suc (a .second .levels) = mul-le-mul on (le-refl (suc (a .second .levels))) in
@@ -142,22 +144,23 @@ module _ (look : Machine → Entry) (base len : ℕ) (a : Access) (out₀ : List
     arrived-entry zero p = absurd (omega arith)
     arrived-entry (suc l) p = let e : suc l - 1 ≡ l = omega arith in rw e
 
-    entry : into look (inspect (first-of a) (left - 1) (below (first-of a) (left - 1)) m then final base len a) out next ≡ all
+    entry : into look (inspect (first-of a) (left - 1) (below (first-of a) (left - 1)) m then final base len a) out next ≡ all look base len a out₀ from
     entry = rw (arrived-entry left on) at (h .same)
 
-    pub outside : look m ≡ Outside → onto out next (faults (accessFault a)) ≡ all
+    pub outside : look m ≡ Outside → onto out next (faults (accessFault a)) ≡ all look base len a out₀ from
     unfolding into inspect bind
     outside e = rw e at entry
 
-    module _ (e : ℕ) (seen : look m ≡ Value e) where
+    module _ {e : ℕ} (seen : look m ≡ Value e) where
       abbrev after : List ℕ
       after = stored out next 1 (left - 1) (m .0) e
 
-      read : (j : Judgement) → judged (firstNeed a) (left - 1) (a .address) e ≡ j → into look (follow (first-of a) j (below (first-of a) (left - 1)) then final base len a) after (next + 4) ≡ all
+      read : (j : Judgement) → judged (firstNeed a) (left - 1) (a .address) e ≡ j
+          → into look (follow (first-of a) j (below (first-of a) (left - 1)) then final base len a) after (next + 4) ≡ all look base len a out₀ from
       unfolding into inspect bind
       read j p = rw (← p) (rw seen at entry)
 
-      stays : (l : ℕ) (g : Guest) → suc l ≤ left → into look (entered base len a l g) after (next + 4) ≡ all → Walks after (next + 4) l g
+      stays : (l : ℕ) (g : Guest) → suc l ≤ left → into look (entered base len a l g) after (next + 4) ≡ all look base len a out₀ from → Walks look base len a out₀ from after (next + 4) l g
       stays l g k s =
           let p : suc l * suc (a .second .levels) ≤ left * suc (a .second .levels) = mul-le-mul k (le-refl (suc (a .second .levels))) in
           record {
@@ -167,17 +170,17 @@ module _ (look : Machine → Entry) (base len : ℕ) (a : Access) (out₀ : List
             size = simp length-sets (h .size);
           }
 
-      pub bad : judged (firstNeed a) (left - 1) (a .address) e ≡ Bad → onto after (next + 4) (faults (pageFault a)) ≡ all
+      pub bad : judged (firstNeed a) (left - 1) (a .address) e ≡ Bad → onto after (next + 4) (faults (pageFault a)) ≡ all look base len a out₀ from
       unfolding into follow bind
       bad p = read Bad p
 
-      pub leaf : (x : ℕ) → judged (firstNeed a) (left - 1) (a .address) e ≡ Leaf x → Walks after (next + 4) 0 (guest x)
+      pub leaf : {x : ℕ} → judged (firstNeed a) (left - 1) (a .address) e ≡ Leaf x → Walks look base len a out₀ from after (next + 4) 0 (guest x)
       unfolding follow bind
-      leaf x p = stays 0 (guest x) on (rw (entered-last base len a) (read (Leaf x) p))
+      leaf {x} p = stays 0 (guest x) on (rw (entered-last base len a) (read (Leaf x) p))
 
-      pub further : (table : ℕ) → judged (firstNeed a) (left - 1) (a .address) e ≡ Pointer table → (i : ℕ) → i ≡ get (indexBits 9 (left - 1 - 1)) (a .address)
-          → Walks after (next + 4) (left - 1) (guest (table + 8 * i))
+      pub further : {table i : ℕ} → judged (firstNeed a) (left - 1) (a .address) e ≡ Pointer table → i ≡ get (indexBits 9 (left - 1 - 1)) (a .address)
+          → Walks look base len a out₀ from after (next + 4) (left - 1) (guest (table + 8 * i))
       unfolding follow
-      further table p i q =
+      further {table} {i} p q =
           let high = pointer-bounds (firstNeed a) (left - 1) (a .address) e table p .0 in
           stays (left - 1) (guest (table + 8 * i)) (omega arith) (rw (← first-pointer base len a (left - 1) table i high q) (read (Pointer table) p))

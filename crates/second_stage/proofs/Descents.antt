@@ -19,7 +19,7 @@ use Rattle.access.specs.declared.Access.{Access}
 use Rattle.access.specs.declared.Guest.{Guest}
 use Rattle.access.specs.declared.Machine.{Machine}
 use Rattle.access.specs.Faults.{accessFault}
-use Rattle.stages.specs.Tree.{bind}
+use Rattle.stages.specs.Tree.{Walk, bind}
 use Rattle.stages.specs.Stages.{Result, yields, faults, Translation, _then_, slot, follow, inspect, down, translation, machine}
 use Rattle.stages.proofs.Trees.{begin-off, begin-at}
 use Rattle.second_stage.specs.Words.{Into, onto, stored, into}
@@ -77,36 +77,44 @@ module _ (look : Machine → Entry) (a : Access) (left : ℕ) (g : Guest) (out�
           size = refl;
         }
 
-  module _ (out : List ℕ) (next level at : ℕ) (d : Descends out next level at) where
-    pub outside : look (machine at) ≡ Outside → onto out next (faults (accessFault a)) ≡ whole
+-- one entry of it
+module _ {look : Machine → Entry} {a : Access} {left : ℕ} {g : Guest} {out₀ : List ℕ} {from : ℕ} {out : List ℕ} {next level at : ℕ}
+    (d : Descends look a left g out₀ from out next level at) where
+  abbrev all : Into (Result Machine)
+  all = whole look a left g out₀ from
+
+  pub outside : look (machine at) ≡ Outside → onto out next (faults (accessFault a)) ≡ all
+  unfolding into inspect
+  outside e = rw e at (d .same)
+
+  module _ {e : ℕ} (seen : look (machine at) ≡ Value e) where
+    abbrev after : List ℕ
+    after = stored out next 2 level at e
+
+    abbrev below-it : ℕ → Walk (Result Machine)
+    below-it = below (second-at a left g) level
+
+    read : (j : Judgement) → judged (needAt a left) level (g .0) e ≡ j → into look (follow (second-at a left g) j below-it) after (next + 4) ≡ all
     unfolding into inspect
-    outside e = rw e at (d .same)
+    read j p = rw (← p) (rw seen at (d .same))
 
-    module _ (e : ℕ) (seen : look (machine at) ≡ Value e) where
-      abbrev after : List ℕ
-      after = stored out next 2 level at e
+    pub bad : judged (needAt a left) level (g .0) e ≡ Bad → onto after (next + 4) (faults (faultAt a left g)) ≡ all
+    unfolding into follow
+    bad p = read Bad p
 
-      read : (j : Judgement) → judged (needAt a left) level (g .0) e ≡ j → into look (follow stage j (below stage level)) after (next + 4) ≡ whole
-      unfolding into inspect
-      read j p = rw (← p) (rw seen at (d .same))
+    pub leaf : {x : ℕ} → judged (needAt a left) level (g .0) e ≡ Leaf x → onto after (next + 4) (yields (machine x)) ≡ all
+    unfolding into follow
+    leaf {x} p = read (Leaf x) p
 
-      pub bad : judged (needAt a left) level (g .0) e ≡ Bad → onto after (next + 4) (faults (faultAt a left g)) ≡ whole
-      unfolding into follow
-      bad p = read Bad p
-
-      pub leaf : (x : ℕ) → judged (needAt a left) level (g .0) e ≡ Leaf x → onto after (next + 4) (yields (machine x)) ≡ whole
-      unfolding into follow
-      leaf x p = read (Leaf x) p
-
-      pub further : (table : ℕ) → judged (needAt a left) level (g .0) e ≡ Pointer table → (i : ℕ) → i ≡ get (indexBits 9 (level - 1)) (g .0)
-          → Descends after (next + 4) (level - 1) (table + 8 * i)
-      unfolding follow bind
-      further table p i q =
-          let high = pointer-bounds (needAt a left) level (g .0) e table p .0 in
-          let b = below-root second levels (level - 1) (g .0) (omega (arith, d .under)) in
-          record {
-            same = rw (q, ← b) (rw (below-at stage level table high, down-at stage (level - 1) table) at (read (Pointer table) p));
-            under = omega (arith, d .under);
-            room = simp length-sets (omega (arith, d .room));
-            size = simp length-sets (d .size);
-          }
+    pub further : {table i : ℕ} → judged (needAt a left) level (g .0) e ≡ Pointer table → i ≡ get (indexBits 9 (level - 1)) (g .0)
+        → Descends look a left g out₀ from after (next + 4) (level - 1) (table + 8 * i)
+    unfolding follow bind
+    further {table} p q =
+        let high = pointer-bounds (needAt a left) level (g .0) e table p .0 in
+        let b = below-root second (a .second .levels) (level - 1) (g .0) (omega (arith, d .under)) in
+        record {
+          same = rw (q, ← b) (rw (below-at (second-at a left g) level table high, down-at (second-at a left g) (level - 1) table) at (read (Pointer table) p));
+          under = omega (arith, d .under);
+          room = simp length-sets (omega (arith, d .room));
+          size = simp length-sets (d .size);
+        }

@@ -11,7 +11,7 @@ use Rattle.stages.specs.Stages.{Result, look, walkOf}
 use Rattle.stages.proofs.Bounds.{at-most}
 use Rattle.second_stage.specs.Words.{Into, onto}
 use Rattle.second_stage.specs.Words.{result}
-use Rattle.engine.proofs.Runs.{written, into-run}
+use Rattle.second_stage.proofs.Runs.{written, into-run}
 use Rattle.engine.proofs.Zeros.{zeroed}
 use Rattle.engine.proofs.list.Statement.{statement}
 use Rattle.engine.proofs.list.Tie as tie

@@ -40,16 +40,10 @@ begins s =
 returns-2 : tie.Need-returns-2 Inv-loop μ-loop
 returns-2 c =
     let a = c .before .before .before .before .before .before .before .before .before .before .before .before .args in
-    let L = look (a .base) (now (a .bytes)) in
-    let N = length (now (a .bytes)) in
-    let g = c .before .before .before .before .before .start .result in
     let f = eqb (a .a .first .levels) 0 in
     let s = eqb (a .a .second .levels) 0 in
-    rw (c .conclude .ensures, c .before .passed .ensures)
-    (finished L (a .base) N (a .a) (now (a .out)) (a .from) (now (a .out)) (a .from) (a .a .first .levels) _
-    (arrives L (a .base) N (a .a) (now (a .out)) (a .from) (now (a .out)) (a .from) (a .a .first .levels) g (begins (c .before .before .before .before .before)) (now (a .out)) (a .from) _
-    (off L (a .a) (a .a .first .levels) g (now (a .out)) (a .from) (eqb-true _ _ (and-right f s (c .before .before .if2 .taken)))))
-    (eqb-true _ _ (and-left f s (c .before .before .if2 .taken))))
+    let none = off (look (a .base) (now (a .bytes))) (a .a) (a .a .first .levels) (c .before .before .before .before .before .start .result) (now (a .out)) (a .from) (eqb-true _ _ (and-right f s (c .before .before .if2 .taken))) in
+    rw (c .conclude .ensures, c .before .passed .ensures) (finished (arrives (begins (c .before .before .before .before .before)) none) (eqb-true _ _ (and-left f s (c .before .before .if2 .taken))))
 
 loop-holds : tie.Need-loop-holds Inv-loop μ-loop
 loop-holds c = begins (c .before .before .before .before .before)
@@ -60,17 +54,10 @@ walk-requires c κs = (c .before .before .before .before .before .before .before
 -- after the second stage
 arrival : (s : tie.After-walk Inv-loop μ-loop) → let a = s .before .before .before .before .before .before .before .before .before .before .before .before .before .before .before .args in
     Arrives (look (a .base) (now (a .bytes))) (a .base) (length (now (a .bytes))) (a .a) (now (a .out)) (a .from) (s .walk .last .1 .1 .1 .1 .1 .1 .1 .0) (s .walk .result .next) (s .before .before .loop .left) (result (s .walk .result .reached))
-arrival s =
-    let a = s .before .before .before .before .before .before .before .before .before .before .before .before .before .before .before .args in
-    let l = s .before .before .loop in
-    arrives (look (a .base) (now (a .bytes))) (a .base) (length (now (a .bytes))) (a .a) (now (a .out)) (a .from) (l .out) (l .next) (l .left) (l .guest) (l .inv) (s .walk .last .1 .1 .1 .1 .1 .1 .1 .0) (s .walk .result .next) _ (s .walk .ensures)
+arrival s = arrives (s .before .before .loop .inv) (s .walk .ensures)
 
 returns-3 : tie.Need-returns-3 Inv-loop μ-loop
-returns-3 c =
-    let a = c .before .before .before .before .before .before .before .before .before .before .before .before .before .before .before .before .before .before .before .args in
-    let s = c .before .before .before .before in
-    rw (c .enum-told .given .1)
-    (failed (look (a .base) (now (a .bytes))) (a .base) (length (now (a .bytes))) (a .a) (now (a .out)) (a .from) _ (s .walk .result .next) (s .before .before .loop .left) (c .enum-told .given .0 .0) (rw (c .enum-told .given .1) at (arrival s)))
+returns-3 c = rw (c .enum-told .given .1) (failed (rw (c .enum-told .given .1) at (arrival (c .before .before .before .before))))
 
 -- at a machine address
 reached : (r : tie.After-reached Inv-loop μ-loop) → let a = r .before .before .before .before .before .before .before .before .before .before .before .before .before .before .before .before .before .before .before .args in
@@ -78,25 +65,17 @@ reached : (r : tie.After-reached Inv-loop μ-loop) → let a = r .before .before
 reached r = rw (r .reached .given .1) at (arrival (r .before .before .before .before))
 
 returns-4 : tie.Need-returns-4 Inv-loop μ-loop
-returns-4 c =
-    let a = c .before .before .before .before .before .before .before .before .before .before .before .before .before .before .before .before .before .before .before .before .before .before .args in
-    rw (c .conclude2 .ensures)
-    (finished (look (a .base) (now (a .bytes))) (a .base) (length (now (a .bytes))) (a .a) (now (a .out)) (a .from) _ (c .before .before .before .before .before .before .before .walk .result .next) (c .before .before .before .before .before .before .before .before .before .loop .left) (c .before .before .before .reached .given .0 .0) (reached (c .before .before .before)) (c .before .if3 .taken))
+returns-4 c = rw (c .conclude2 .ensures) (finished (reached (c .before .before .before)) (c .before .if3 .taken))
 
 fetch-below-requires : tie.Need-fetch-below-requires Inv-loop μ-loop
 fetch-below-requires c κs = (c .before .before .before .before .before .before .before .before .before .before .before .before .before .before .before .before .before .before .before .before .before .pre .0, c .before .before .before .before .before .before .before .before .before .before .before .before .before .before .before .before .before .before .limit .ensures)
 
 returns-5 : tie.Need-returns-5 Inv-loop μ-loop
-returns-5 c =
-    let a = c .before .before .before .before .before .before .before .before .before .before .before .before .before .before .before .before .before .before .before .before .before .before .before .before .before .args in
-    rw (c .access-fault .ensures)
-    (outside (look (a .base) (now (a .bytes))) (a .base) (length (now (a .bytes))) (a .a) (now (a .out)) (a .from) _ (c .before .before .before .before .before .before .before .before .before .before .walk .result .next) (c .before .before .before .before .before .before .before .before .before .before .before .before .loop .left) (c .before .before .before .before .before .before .reached .given .0 .0) (reached (c .before .before .before .before .before .before)) (omega (arith, c .before .before .before .before .if3 .left)) (sym (c .before .before .before .fetch-below .ensures) ∙ c .before .enum-told2 .given .1))
+returns-5 c = rw (c .access-fault .ensures) (outside (reached (c .before .before .before .before .before .before)) (omega (arith, c .before .before .before .before .if3 .left)) (sym (c .before .before .before .fetch-below .ensures) ∙ c .before .enum-told2 .given .1))
 
 -- a read's words fit
 room : (e : tie.After-e Inv-loop μ-loop) → e .before .before .before .before .before .before .before .before .before .walk .result .next + 4 ≤ length (e .before .before .before .before .before .before .before .before .before .walk .last .1 .1 .1 .1 .1 .1 .1 .0)
-room e =
-    let a = e .before .before .before .before .before .before .before .before .before .before .before .before .before .before .before .before .before .before .before .before .before .before .before .before .args in
-    has-room (look (a .base) (now (a .bytes))) (a .base) (length (now (a .bytes))) (a .a) (now (a .out)) (a .from) _ (e .before .before .before .before .before .before .before .before .before .walk .result .next) (e .before .before .before .before .before .before .before .before .before .before .before .loop .left) (e .before .before .before .before .before .reached .given .0 .0) (reached (e .before .before .before .before .before)) (omega (arith, e .before .before .before .if3 .left))
+room e = has-room (reached (e .before .before .before .before .before)) (omega (arith, e .before .before .before .if3 .left))
 
 put-requires : tie.Need-put-requires Inv-loop μ-loop
 put-requires c κs = omega (arith, room (c .before .before))
@@ -116,18 +95,14 @@ judgement q = sym (q .judge .ensures _ (rw (q .before .before .before .before .b
 
 returns-6 : tie.Need-returns-6 Inv-loop μ-loop
 returns-6 c =
-    let a = c .before .before .before .before .before .before .before .before .before .before .before .before .before .before .before .before .before .before .before .before .before .before .before .before .before .before .before .before .before .before .before .before .before .args in
     rw (c .page-fault2 .ensures, c .before .before .before .before .before .before .put .ensures)
-    (bad (look (a .base) (now (a .bytes))) (a .base) (length (now (a .bytes))) (a .a) (now (a .out)) (a .from) _ (c .before .before .before .before .before .before .before .before .before .before .before .before .before .before .before .before .before .before .walk .result .next) (c .before .before .before .before .before .before .before .before .before .before .before .before .before .before .before .before .before .before .before .before .loop .left) (c .before .before .before .before .before .before .before .before .before .before .before .before .before .before .reached .given .0 .0) (reached (c .before .before .before .before .before .before .before .before .before .before .before .before .before .before)) (omega (arith, c .before .before .before .before .before .before .before .before .before .before .before .before .if3 .left)) _ (seen (c .before .before .before)) (judgement (c .before .before .before) ∙ c .before .enum-told3 .given .1))
+    (bad (reached (c .before .before .before .before .before .before .before .before .before .before .before .before .before .before)) (omega (arith, c .before .before .before .before .before .before .before .before .before .before .before .before .if3 .left)) (seen (c .before .before .before)) (judgement (c .before .before .before) ∙ c .before .enum-told3 .given .1))
 
 loop-less : tie.Need-loop-less Inv-loop μ-loop
 loop-less c = omega (arith, c .before .before .before .before .before .before .before .before .before .before .before .before .if3 .left)
 
 loop-again : tie.Need-loop-again Inv-loop μ-loop
-loop-again c =
-    let a = c .before .before .before .before .before .before .before .before .before .before .before .before .before .before .before .before .before .before .before .before .before .before .before .before .before .before .before .before .before .before .before .before .before .args in
-    rw (c .before .before .before .before .before .before .put .ensures)
-    (leaf (look (a .base) (now (a .bytes))) (a .base) (length (now (a .bytes))) (a .a) (now (a .out)) (a .from) _ (c .before .before .before .before .before .before .before .before .before .before .before .before .before .before .before .before .before .before .walk .result .next) (c .before .before .before .before .before .before .before .before .before .before .before .before .before .before .before .before .before .before .before .before .loop .left) (c .before .before .before .before .before .before .before .before .before .before .before .before .before .before .reached .given .0 .0) (reached (c .before .before .before .before .before .before .before .before .before .before .before .before .before .before)) (omega (arith, c .before .before .before .before .before .before .before .before .before .before .before .before .if3 .left)) _ (seen (c .before .before .before)) _ (judgement (c .before .before .before) ∙ c .before .j .given .1))
+loop-again c = rw (c .before .before .before .before .before .before .put .ensures) (leaf (reached (c .before .before .before .before .before .before .before .before .before .before .before .before .before .before)) (omega (arith, c .before .before .before .before .before .before .before .before .before .before .before .before .if3 .left)) (seen (c .before .before .before)) (judgement (c .before .before .before) ∙ c .before .j .given .1))
 
 sub-index : tie.Need-sub-index Inv-loop μ-loop
 sub-index c = omega (arith, pointer-bounds _ _ _ _ _ (judgement (c .before .before .before) ∙ c .before .j2 .given .1) .0)
@@ -143,9 +118,8 @@ loop-less-2 c = omega (arith, c .before .before .before .before .before .before 
 
 loop-again-2 : tie.Need-loop-again-2 Inv-loop μ-loop
 loop-again-2 c =
-    let a = c .before .before .before .before .before .before .before .before .before .before .before .before .before .before .before .before .before .before .before .before .before .before .before .before .before .before .before .before .before .before .before .before .before .before .args in
     rw (c .before .before .before .before .before .before .before .put .ensures)
-    (further (look (a .base) (now (a .bytes))) (a .base) (length (now (a .bytes))) (a .a) (now (a .out)) (a .from) _ (c .before .before .before .before .before .before .before .before .before .before .before .before .before .before .before .before .before .before .before .walk .result .next) (c .before .before .before .before .before .before .before .before .before .before .before .before .before .before .before .before .before .before .before .before .before .loop .left) (c .before .before .before .before .before .before .before .before .before .before .before .before .before .before .before .reached .given .0 .0) (reached (c .before .before .before .before .before .before .before .before .before .before .before .before .before .before .before)) (omega (arith, c .before .before .before .before .before .before .before .before .before .before .before .before .before .if3 .left)) _ (seen (c .before .before .before .before)) _ (judgement (c .before .before .before .before) ∙ c .before .before .j2 .given .1) (c .index .result) (c .index .ensures .0))
+    (further (reached (c .before .before .before .before .before .before .before .before .before .before .before .before .before .before .before)) (omega (arith, c .before .before .before .before .before .before .before .before .before .before .before .before .before .if3 .left)) (seen (c .before .before .before .before)) (judgement (c .before .before .before .before) ∙ c .before .before .j2 .given .1) (c .index .ensures .0))
 
 pub walk-into-spec : {M : Type 1} → statement M
 walk-into-spec =

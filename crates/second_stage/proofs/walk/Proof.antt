@@ -39,11 +39,7 @@ loop-holds c =
     (sym (c .before .before .before .before .is-small .ensures) ∙ not-false _ (c .before .before .before .if2 .left)) (c .before .before .before .before .before .before .before .before .before .pre .3) (c .root-index .result) (c .root-index .ensures .0)
 
 returns-3 : tie.Need-returns-3 Inv-loop μ-loop
-returns-3 c =
-    let a = c .before .before .before .before .before .before .before .before .before .before .before .before .before .before .args in
-    let l = c .before .before .before .before .loop in
-    rw (c .access-fault .ensures)
-    (outside (look (a .base) (now (a .bytes))) (a .a) (a .left) (a .guest) (now (a .out)) (a .from) (l .out) (l .next) (l .level) (l .at) (l .inv) (sym (c .before .before .before .fetch-below .ensures) ∙ c .before .enum-told .given .1))
+returns-3 c = rw (c .access-fault .ensures) (outside (c .before .before .before .before .loop .inv) (sym (c .before .before .before .fetch-below .ensures) ∙ c .before .enum-told .given .1))
 
 add-next : tie.Need-add-next Inv-loop μ-loop
 add-next c = omega (arith, c .before .before .before .before .before .before .before .before .loop .inv .room, c .before .before .before .before .before .before .before .before .loop .inv .size, c .before .before .before .before .before .before .before .before .before .before .before .before .before .before .before .before .before .before .good .1 .1 .1 .1 .1 .1 .1 .0)
@@ -56,18 +52,10 @@ judgement : (q : tie.After-judge Inv-loop μ-loop) → let a = q .before .before
 judgement q = sym (q .judge .ensures _ (q .before .before .before .before .before .before .before .before .before .before .before .before .test .ensures))
 
 returns-4 : tie.Need-returns-4 Inv-loop μ-loop
-returns-4 c =
-    let a = c .before .before .before .before .before .before .before .before .before .before .before .before .before .before .before .before .before .before .before .before .before .before .args in
-    let l = c .before .before .before .before .before .before .before .before .before .before .before .before .loop in
-    rw (c .fault2 .ensures, c .before .before .before .before .before .before .put .ensures)
-    (bad (look (a .base) (now (a .bytes))) (a .a) (a .left) (a .guest) (now (a .out)) (a .from) (l .out) (l .next) (l .level) (l .at) (l .inv) _ (seen (c .before .before .before)) (judgement (c .before .before .before) ∙ c .before .enum-told2 .given .1))
+returns-4 c = rw (c .fault2 .ensures, c .before .before .before .before .before .before .put .ensures) (bad (c .before .before .before .before .before .before .before .before .before .before .before .before .loop .inv) (seen (c .before .before .before)) (judgement (c .before .before .before) ∙ c .before .enum-told2 .given .1))
 
 returns-5 : tie.Need-returns-5 Inv-loop μ-loop
-returns-5 c =
-    let a = c .before .before .before .before .before .before .before .before .before .before .before .before .before .before .before .before .before .before .before .before .before .before .args in
-    let l = c .before .before .before .before .before .before .before .before .before .before .before .before .loop in
-    rw (c .before .before .before .before .before .before .put .ensures)
-    (leaf (look (a .base) (now (a .bytes))) (a .a) (a .left) (a .guest) (now (a .out)) (a .from) (l .out) (l .next) (l .level) (l .at) (l .inv) _ (seen (c .before .before .before)) _ (judgement (c .before .before .before) ∙ c .before .j .given .1))
+returns-5 c = rw (c .before .before .before .before .before .before .put .ensures) (leaf (c .before .before .before .before .before .before .before .before .before .before .before .before .loop .inv) (seen (c .before .before .before)) (judgement (c .before .before .before) ∙ c .before .j .given .1))
 
 sub-level-2 : tie.Need-sub-level-2 Inv-loop μ-loop
 sub-level-2 c = omega (arith, pointer-bounds _ _ _ _ _ (judgement (c .before .before .before) ∙ c .before .j2 .given .1) .0)
@@ -82,11 +70,7 @@ loop-less : tie.Need-loop-less Inv-loop μ-loop
 loop-less c = omega (arith, pointer-bounds _ _ _ _ _ (judgement (c .before .before .before .before) ∙ c .before .before .j2 .given .1) .0)
 
 loop-again : tie.Need-loop-again Inv-loop μ-loop
-loop-again c =
-    let a = c .before .before .before .before .before .before .before .before .before .before .before .before .before .before .before .before .before .before .before .before .before .before .before .args in
-    let l = c .before .before .before .before .before .before .before .before .before .before .before .before .before .loop in
-    rw (c .before .before .before .before .before .before .before .put .ensures)
-    (further (look (a .base) (now (a .bytes))) (a .a) (a .left) (a .guest) (now (a .out)) (a .from) (l .out) (l .next) (l .level) (l .at) (l .inv) _ (seen (c .before .before .before .before)) _ (judgement (c .before .before .before .before) ∙ c .before .before .j2 .given .1) (c .index .result) (c .index .ensures .0))
+loop-again c = rw (c .before .before .before .before .before .before .before .put .ensures) (further (c .before .before .before .before .before .before .before .before .before .before .before .before .before .loop .inv) (seen (c .before .before .before .before)) (judgement (c .before .before .before .before) ∙ c .before .before .j2 .given .1) (c .index .ensures .0))
 
 pub walk-spec : {M : Type 1} → statement M
 walk-spec =
