@@ -2,7 +2,7 @@
 use mathlib.Core.Path.{_≡_, refl, sym, ap, _∙_}
 use mathlib.Core.Bool.{Bool, true, false, _&&_, not}
 use mathlib.Core.List.{List}
-use Prim.Native.Nat.{ℕ, zero, suc, _+_, _-_, _*_, _<_, _≤_}
+use Prim.Native.Nat.{ℕ, zero, suc, _+_, _-_, _*_, _^_, _<_, _≤_}
 use native.Mathlib.Nat.{mul-one, suc-mul, mul-le-mul, le-refl}
 use native.Mathlib.Omega.{arith}
 use lib.Dec.{eqb, eqb·suc-zero}
@@ -12,11 +12,12 @@ use borrow.Author.Tests.{eqb-true, eqb-false}
 use Rattle.bits.specs.Field.{get, pick}
 use Rattle.bits.proofs.Bools.{clash}
 use Rattle.image.specs.declared.Entry.{Entry}
-use Rattle.image.specs.declared.Entry.the-variants.{Value, Outside}
+use Rattle.image.specs.declared.Entry.the-variants.{Outside}
 use Rattle.rules.specs.declared.Judgement.{Judgement}
 use Rattle.rules.specs.declared.Judgement.the-variants.{Pointer, Leaf, Bad}
 use Rattle.rules.specs.Address.{wellFormed, first, indexBits, index}
-use Rattle.rules.specs.Entry.{judged}
+use Rattle.rules.specs.declared.Test.{Test}
+use Rattle.rules.specs.Test.{testOf}
 use Rattle.rules.proofs.Judgements.{pointer-bounds}
 use Rattle.access.specs.declared.Access.{Access}
 use Rattle.access.specs.declared.Guest.{Guest}
@@ -24,15 +25,15 @@ use Rattle.access.specs.declared.Machine.{Machine}
 use Rattle.access.specs.Needs.{firstNeed, entryNeed}
 use Rattle.access.specs.Faults.{accessFault, pageFault, entryFault}
 use Rattle.exceptions.specs.declared.Exception.{Exception}
-use Rattle.stages.specs.Tree.{done, bind}
+use Rattle.stages.specs.Tree.{Walk, done, bind}
 use Rattle.stages.specs.Stages.{Result, yields, faults, onward, _then_, slot, follow, inspect, down, translation, guest, second-of, first-of, last, final, walkOf}
 use Rattle.stages.proofs.Trees.{then-assoc, begin-off, begin-at}
 use Rattle.stages.proofs.Bounds.{Within, within-begin}
-use Rattle.second_stage.specs.Words.{Into, onto, stored, into}
+use Rattle.second_stage.specs.Words.{Into, onto, into, Sees}
 use Rattle.second_stage.specs.Place.{second-at, below}
 use Rattle.engine.specs.Place.{arrived, entered, reach, startGuest, strays}
-use Rattle.second_stage.proofs.Descents.{down-at, below-at}
-use Rattle.second_stage.proofs.Runs.{into-bind, into-room}
+use Rattle.second_stage.proofs.Descents.{down-at, below-at, entry-outside, entry-read}
+use Rattle.second_stage.proofs.Runs.{into-bind, into-then, into-room}
 
 positive : (n : ℕ) → eqb n 0 ≡ false → 0 < n
 positive n p = omega (arith, eqb-false n 0 p)
@@ -147,40 +148,46 @@ module _ {look : Machine → Entry} {base len : ℕ} {a : Access} {out₀ : List
     entry : into look (inspect (first-of a) (left - 1) (below (first-of a) (left - 1)) m then final base len a) out next ≡ all look base len a out₀ from
     entry = rw (arrived-entry left on) at (h .same)
 
-    pub outside : look m ≡ Outside → onto out next (faults (accessFault a)) ≡ all look base len a out₀ from
-    unfolding into inspect bind
-    outside e = rw e at entry
+    abbrev tables : ℕ → Walk (Result Guest)
+    tables = below (first-of a) (left - 1)
 
-    module _ {e : ℕ} (seen : look m ≡ Value e) where
-      abbrev after : List ℕ
-      after = stored out next 1 (left - 1) (m .0) e
+    pub outside : {out′ : List ℕ} → (look m ≡ Outside) × (out′ ≡ out) → onto out′ next (faults (accessFault a)) ≡ all look base len a out₀ from
+    unfolding into bind
+    outside {out′} e =
+        sym (into-then look (onward (final base len a)) (inspect (first-of a) (left - 1) tables m) (done (faults (accessFault a))) out out′ next next
+        (entry-outside look (first-of a) tables (left - 1) next m out out′ e)) ∙ entry
 
-      read : (j : Judgement) → judged (firstNeed a) (left - 1) (a .address) e ≡ j
-          → into look (follow (first-of a) j (below (first-of a) (left - 1)) then final base len a) after (next + 4) ≡ all look base len a out₀ from
-      unfolding into inspect bind
-      read j p = rw (← p) (rw seen at entry)
+    module _ {t : Test} {out′ : List ℕ} {j : Judgement} (p : t ≡ testOf (firstNeed a)) (s : Sees look t 1 (left - 1) (a .address) m next out out′ j) where
+      read : into look (follow (first-of a) j tables then final base len a) out′ (next + 4) ≡ all look base len a out₀ from
+      read =
+          sym (into-then look (onward (final base len a)) (inspect (first-of a) (left - 1) tables m) (follow (first-of a) j tables) out out′ next (next + 4)
+          (entry-read look (first-of a) tables (left - 1) next m out out′ p s)) ∙ entry
 
-      stays : (l : ℕ) (g : Guest) → suc l ≤ left → into look (entered base len a l g) after (next + 4) ≡ all look base len a out₀ from → Walks look base len a out₀ from after (next + 4) l g
-      stays l g k s =
-          let p : suc l * suc (a .second .levels) ≤ left * suc (a .second .levels) = mul-le-mul k (le-refl (suc (a .second .levels))) in
+      pub size-kept : length out′ ≡ length out
+      size-kept = ap length (s .listed) ∙ simp length-sets
+
+      stays : (l : ℕ) (g : Guest) → suc l ≤ left → into look (entered base len a l g) out′ (next + 4) ≡ all look base len a out₀ from → Walks look base len a out₀ from out′ (next + 4) l g
+      stays l g k w =
+          let q : suc l * suc (a .second .levels) ≤ left * suc (a .second .levels) = mul-le-mul k (le-refl (suc (a .second .levels))) in
           record {
-            same = s;
+            same = w;
             depth = omega (arith, h .depth);
-            room = simp length-sets (omega (arith, h .room, suc-mul l (suc (a .second .levels))));
-            size = simp length-sets (h .size);
+            room = omega (arith, h .room, suc-mul l (suc (a .second .levels)), size-kept);
+            size = size-kept ∙ h .size;
           }
 
-      pub bad : judged (firstNeed a) (left - 1) (a .address) e ≡ Bad → onto after (next + 4) (faults (pageFault a)) ≡ all look base len a out₀ from
+      pub bad : j ≡ Bad → onto out′ (next + 4) (faults (pageFault a)) ≡ all look base len a out₀ from
       unfolding into follow bind
-      bad p = read Bad p
+      bad e = rw e at read
 
-      pub leaf : {x : ℕ} → judged (firstNeed a) (left - 1) (a .address) e ≡ Leaf x → Walks look base len a out₀ from after (next + 4) 0 (guest x)
+      pub leaf : {x : ℕ} → j ≡ Leaf x → Walks look base len a out₀ from out′ (next + 4) 0 (guest x)
       unfolding follow bind
-      leaf {x} p = stays 0 (guest x) on (rw (entered-last base len a) (read (Leaf x) p))
+      leaf {x} e = stays 0 (guest x) on (rw (entered-last base len a) (rw e at read))
 
-      pub further : {table i : ℕ} → judged (firstNeed a) (left - 1) (a .address) e ≡ Pointer table → i ≡ get (indexBits 9 (left - 1 - 1)) (a .address)
-          → Walks look base len a out₀ from after (next + 4) (left - 1) (guest (table + 8 * i))
+      pub bounds : {table : ℕ} → j ≡ Pointer table → (0 < left - 1) × (table < 2 ^ 56)
+      bounds {table} e = pointer-bounds (firstNeed a) (left - 1) (a .address) (s .value) table (sym (s .judgement (firstNeed a) p) ∙ e)
+
+      pub further : {table i : ℕ} → j ≡ Pointer table → i ≡ get (indexBits 9 (left - 1 - 1)) (a .address) → Walks look base len a out₀ from out′ (next + 4) (left - 1) (guest (table + 8 * i))
       unfolding follow
-      further {table} {i} p q =
-          let high = pointer-bounds (firstNeed a) (left - 1) (a .address) e table p .0 in
-          stays (left - 1) (guest (table + 8 * i)) (omega arith) (rw (← first-pointer base len a (left - 1) table i high q) (read (Pointer table) p))
+      further {table} {i} e q =
+          stays (left - 1) (guest (table + 8 * i)) (omega arith) (rw (← first-pointer base len a (left - 1) table i (bounds e .0) q) (rw e at read))

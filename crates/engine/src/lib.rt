@@ -12,13 +12,11 @@ ghost use Rattle.engine.specs.Written.{Written};
 use access::Access;
 use access::Guest;
 use access::Machine;
-use image::Entry;
-use image::fetch_below;
 use rules::Judgement;
 use second_stage::Progress;
 use second_stage::Reached;
+use second_stage::Seen;
 use second_stage::passed;
-use second_stage::put;
 
 // What a walk comes to: how many reads stand in the list, and its end.
 pub struct Listed {
@@ -103,17 +101,26 @@ fn walk_into(base: u64, bytes: &[u8], a: Access, from: usize, out: &mut [u64]) -
                 reached: conclude(base, len, a, m),
             };
         }
-        let at = m.0;
-        let Entry::Value(e) = fetch_below(base, limit, bytes, at) else {
+        left = left - 1;
+        let seen = second_stage::inspect(
+            base,
+            limit,
+            bytes,
+            t,
+            1,
+            left,
+            address,
+            m,
+            next,
+            &mut *out,
+        );
+        let Seen::Entry(j) = seen else {
             return Progress {
                 next,
                 reached: Reached::Failed(a.access_fault()),
             };
         };
-        left = left - 1;
-        put(&mut *out, next, 1, left, at, e);
         next = next + 4;
-        let j = t.judge(left, address, e);
         match j {
             Judgement::Bad => {
                 return Progress {

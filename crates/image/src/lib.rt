@@ -2,7 +2,7 @@
 ghost use mathlib.Core.Path.{_≡_};
 ghost use Prim.Native.Nat.{_+_, _-_, _^_, _<_, _≤_};
 ghost use lib.ListN.{length};
-ghost use Rattle.image.specs.Image.{unfit, within, eight, entry};
+ghost use Rattle.image.specs.Image.{unfit, within, four, eight, entry};
 
 // What stands at a machine address: an entry's value, or nothing of the image.
 pub enum Entry {
@@ -39,19 +39,20 @@ fn wide(x: u8) -> u64
     x as u64
 }
 
-// The eight bytes from an offset on. The compiler makes one load of it, also where it is inlined.
+// The four bytes from an offset on.
+fn four(s: &[u8], at: usize) -> u64
+    requires { ⌜ at + 4 ≤ length (now s) ⌝ }
+    ensures { λ r. ⌜ (r ≡ four (now (s .entry)) at) × (r < 2 ^ 32) ⌝ }
+{
+    wide(s[at]) | (wide(s[at + 1]) << 8) | (wide(s[at + 2]) << 16) | (wide(s[at + 3]) << 24)
+}
+
+// The eight bytes from an offset on. The compiler makes one load of these, also where it is inlined, since they are joined by `|`.
 fn load(s: &[u8], at: usize) -> u64
     requires { ⌜ at + 8 ≤ length (now s) ⌝ }
     ensures { λ r. ⌜ r ≡ eight (now (s .entry)) at ⌝ }
 {
-    wide(s[at])
-        | (wide(s[at + 1]) << 8)
-        | (wide(s[at + 2]) << 16)
-        | (wide(s[at + 3]) << 24)
-        | (wide(s[at + 4]) << 32)
-        | (wide(s[at + 5]) << 40)
-        | (wide(s[at + 6]) << 48)
-        | (wide(s[at + 7]) << 56)
+    four(s, at) | (four(s, at + 4) << 32)
 }
 
 // The entry at a machine address.

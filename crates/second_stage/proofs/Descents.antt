@@ -1,18 +1,19 @@
 -- One entry's read, at either stage; the second stage's loop: what is left, from an entry on, is the whole. Assumes nothing.
-use mathlib.Core.Path.{_≡_, refl}
+use mathlib.Core.Path.{_≡_, refl, sym, ap, _∙_}
 use mathlib.Core.Bool.{true, false}
 use mathlib.Core.List.{List}
-use Prim.Native.Nat.{ℕ, zero, suc, _+_, _-_, _*_, _<_, _≤_}
+use Prim.Native.Nat.{ℕ, zero, suc, _+_, _-_, _*_, _^_, _<_, _≤_}
 use native.Mathlib.Omega.{arith}
 use lib.ListN.{length}
 use lib.Seq.{length-sets}
 use Rattle.bits.specs.Field.{get}
 use Rattle.image.specs.declared.Entry.{Entry}
-use Rattle.image.specs.declared.Entry.the-variants.{Value, Outside}
+use Rattle.image.specs.declared.Entry.the-variants.{Outside}
 use Rattle.rules.specs.declared.Judgement.{Judgement}
 use Rattle.rules.specs.declared.Judgement.the-variants.{Pointer, Leaf, Bad}
-use Rattle.rules.specs.Address.{wellFormed, second, indexBits, index}
-use Rattle.rules.specs.Entry.{judged}
+use Rattle.rules.specs.Address.{wellFormed, second, number, indexBits, index}
+use Rattle.rules.specs.declared.Test.{Test}
+use Rattle.rules.specs.Test.{testOf}
 use Rattle.rules.proofs.Indices.{below-root}
 use Rattle.rules.proofs.Judgements.{pointer-bounds}
 use Rattle.access.specs.declared.Access.{Access}
@@ -22,7 +23,7 @@ use Rattle.access.specs.Faults.{accessFault}
 use Rattle.stages.specs.Tree.{Walk, bind}
 use Rattle.stages.specs.Stages.{Result, yields, faults, Translation, _then_, slot, follow, inspect, down, translation, machine}
 use Rattle.stages.proofs.Trees.{begin-off, begin-at}
-use Rattle.second_stage.specs.Words.{Into, onto, stored, into}
+use Rattle.second_stage.specs.Words.{Into, onto, into, Sees}
 use Rattle.second_stage.specs.Place.{needAt, faultAt, second-at, below}
 
 -- ---- one entry, at either stage
@@ -37,6 +38,17 @@ pub below-at : {A : Type 0} (t : Translation A) (level table : ℕ) → 0 < leve
 unfolding below
 below-at t zero table h = absurd (omega arith)
 below-at t (suc l) table h = let e : suc l - 1 ≡ l = omega arith in rw e
+
+-- outside the image; read, listed and judged
+module _ {A : Type 0} (look : Machine → Entry) (tr : Translation A) (next : ℕ → Walk (Result A)) (level n : ℕ) (m : Machine) (out out′ : List ℕ) where
+  pub entry-outside : (look m ≡ Outside) × (out′ ≡ out) → into look (inspect tr level next m) out n ≡ onto out′ n (faults (tr .outside))
+  unfolding into inspect
+  entry-outside e = rw (e .0, e .1)
+
+  pub entry-read : {t : Test} {j : Judgement} → t ≡ testOf (tr .need) → Sees look t (number (tr .stage)) level (tr .address) m n out out′ j
+      → into look (inspect tr level next m) out n ≡ into look (follow tr j next) out′ (n + 4)
+  unfolding into inspect
+  entry-read p s = rw (s .found, s .listed, s .judgement (tr .need) p)
 
 -- ---- the second stage
 
@@ -83,38 +95,35 @@ module _ {look : Machine → Entry} {a : Access} {left : ℕ} {g : Guest} {out�
   abbrev all : Into (Result Machine)
   all = whole look a left g out₀ from
 
-  pub outside : look (machine at) ≡ Outside → onto out next (faults (accessFault a)) ≡ all
-  unfolding into inspect
-  outside e = rw e at (d .same)
+  abbrev tables : ℕ → Walk (Result Machine)
+  tables = below (second-at a left g) level
 
-  module _ {e : ℕ} (seen : look (machine at) ≡ Value e) where
-    abbrev after : List ℕ
-    after = stored out next 2 level at e
+  pub outside : {out′ : List ℕ} → (look (machine at) ≡ Outside) × (out′ ≡ out) → onto out′ next (faults (accessFault a)) ≡ all
+  outside {out′} e = sym (entry-outside look (second-at a left g) tables level next (machine at) out out′ e) ∙ d .same
 
-    abbrev below-it : ℕ → Walk (Result Machine)
-    below-it = below (second-at a left g) level
+  module _ {t : Test} {out′ : List ℕ} {j : Judgement} (p : t ≡ testOf (needAt a left)) (s : Sees look t 2 level (g .0) (machine at) next out out′ j) where
+    read : into look (follow (second-at a left g) j tables) out′ (next + 4) ≡ all
+    read = sym (entry-read look (second-at a left g) tables level next (machine at) out out′ p s) ∙ d .same
 
-    read : (j : Judgement) → judged (needAt a left) level (g .0) e ≡ j → into look (follow (second-at a left g) j below-it) after (next + 4) ≡ all
-    unfolding into inspect
-    read j p = rw (← p) (rw seen at (d .same))
-
-    pub bad : judged (needAt a left) level (g .0) e ≡ Bad → onto after (next + 4) (faults (faultAt a left g)) ≡ all
+    pub bad : j ≡ Bad → onto out′ (next + 4) (faults (faultAt a left g)) ≡ all
     unfolding into follow
-    bad p = read Bad p
+    bad e = rw e at read
 
-    pub leaf : {x : ℕ} → judged (needAt a left) level (g .0) e ≡ Leaf x → onto after (next + 4) (yields (machine x)) ≡ all
+    pub leaf : {x : ℕ} → j ≡ Leaf x → onto out′ (next + 4) (yields (machine x)) ≡ all
     unfolding into follow
-    leaf {x} p = read (Leaf x) p
+    leaf e = rw e at read
 
-    pub further : {table i : ℕ} → judged (needAt a left) level (g .0) e ≡ Pointer table → i ≡ get (indexBits 9 (level - 1)) (g .0)
-        → Descends look a left g out₀ from after (next + 4) (level - 1) (table + 8 * i)
+    pub bounds : {table : ℕ} → j ≡ Pointer table → (0 < level) × (table < 2 ^ 56)
+    bounds {table} e = pointer-bounds (needAt a left) level (g .0) (s .value) table (sym (s .judgement (needAt a left) p) ∙ e)
+
+    pub further : {table i : ℕ} → j ≡ Pointer table → i ≡ get (indexBits 9 (level - 1)) (g .0) → Descends look a left g out₀ from out′ (next + 4) (level - 1) (table + 8 * i)
     unfolding follow bind
-    further {table} p q =
-        let high = pointer-bounds (needAt a left) level (g .0) e table p .0 in
-        let b = below-root second (a .second .levels) (level - 1) (g .0) (omega (arith, d .under)) in
+    further {table} e q =
+        let b = below-root second (a .second .levels) (level - 1) (g .0) (omega (arith, d .under, bounds e .0)) in
+        let same-size : length out′ ≡ length out = ap length (s .listed) ∙ simp length-sets in
         record {
-          same = rw (q, ← b) (rw (below-at (second-at a left g) level table high, down-at (second-at a left g) (level - 1) table) at (read (Pointer table) p));
-          under = omega (arith, d .under);
-          room = simp length-sets (omega (arith, d .room));
-          size = simp length-sets (d .size);
+          same = rw (q, ← b) (rw (e, below-at (second-at a left g) level table (bounds e .0), down-at (second-at a left g) (level - 1) table) at read);
+          under = omega (arith, d .under, bounds e .0);
+          room = omega (arith, d .room, bounds e .0);
+          size = same-size ∙ d .size;
         }

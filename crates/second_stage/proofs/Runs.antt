@@ -1,5 +1,5 @@
 -- A walk's run into words. Assumes nothing.
-use mathlib.Core.Path.{_≡_, refl, _∙_}
+use mathlib.Core.Path.{_≡_, refl, sym, ap, _∙_}
 use mathlib.Core.List.{List, [], _∷_}
 use Prim.Native.Nat.{ℕ, zero, suc, _+_, _*_, _≤_}
 use native.Mathlib.Omega.{arith}
@@ -30,6 +30,11 @@ into-bind {A} {B} look (ask s l m outside k) f ws n =
         ≡ continued look f (found e (into look outside ws n) (λ v. into look (k v) (stored ws n s l (m .0) v) (n + 4)))
     go Outside io ik = io
     go (Value v) io ik = ik v
+
+-- what is the same so far goes on the same
+pub into-then : {A B : Type 0} (look : Machine → Entry) (f : A → Walk B) (w w′ : Walk A) (ws ws′ : List ℕ) (n n′ : ℕ) → into look w ws n ≡ into look w′ ws′ n′
+    → into look (bind w f) ws n ≡ into look (bind w′ f) ws′ n′
+into-then look f w w′ ws ws′ n n′ e = into-bind look w f ws n ∙ ap (continued look f) e ∙ sym (into-bind look w′ f ws′ n′)
 
 -- a walk that reads at most k entries: the place after them, and the slice's length
 abbrev Room : {A : Type 0} → Into A → ℕ → List ℕ → Type 0

@@ -1,11 +1,11 @@
 // The second stage over a guest address, its reads written as words where the caller wants them.
 ghost use mathlib.Core.Path.{_≡_};
-ghost use Prim.Native.Nat.{_+_, _-_, _*_, _^_, _≤_};
+ghost use Prim.Native.Nat.{_+_, _-_, _*_, _^_, _<_, _≤_};
 ghost use lib.ListN.{length};
 ghost use Rattle.rules.specs.Test.{testOf};
 ghost use Rattle.stages.specs.Stages.{machine, look, translation};
 ghost use Rattle.second_stage.specs.Place.{needAt, faultAt, second-at, Tables};
-ghost use Rattle.second_stage.specs.Words.{result, onto, stored, into};
+ghost use Rattle.second_stage.specs.Words.{result, onto, stored, into, Inspects};
 use access::Access;
 use access::Guest;
 use access::Machine;
@@ -27,8 +27,14 @@ pub struct Progress {
     pub reached: Reached,
 }
 
+// What stands at a machine address: an entry, judged, or nothing of the image.
+pub enum Seen {
+    Entry(Judgement),
+    Outside,
+}
+
 // One read's words, from an index on.
-pub fn put(out: &mut [u64], next: usize, stage: u64, level: u64, at: u64, e: u64)
+fn put(out: &mut [u64], next: usize, stage: u64, level: u64, at: u64, e: u64)
     requires { ⌜ next + 4 ≤ length (now out) ⌝ }
     ensures { λ _. ⌜ now (out .exit) ≡ stored (now (out .entry)) next stage level at e ⌝ }
 {
@@ -36,6 +42,29 @@ pub fn put(out: &mut [u64], next: usize, stage: u64, level: u64, at: u64, e: u64
     out[next + 1] = level;
     out[next + 2] = at;
     out[next + 3] = e;
+}
+
+// An entry of either stage: read, listed in out from an index on, and judged for an address.
+pub fn inspect(
+    base: u64,
+    limit: u64,
+    bytes: &[u8],
+    t: Test,
+    stage: u64,
+    level: u64,
+    address: u64,
+    at: Machine,
+    next: usize,
+    out: &mut [u64],
+) -> Seen
+    requires { ⌜ (base + length (now bytes) ≤ 2 ^ 56) × (limit ≡ length (now bytes) - 7) × (level < 5) × (next + 4 ≤ length (now out)) ⌝ }
+    ensures { λ r. ⌜ Inspects (look base (now (bytes .entry))) t stage level address at next (now (out .entry)) (now (out .exit)) r ⌝ }
+{
+    let Entry::Value(e) = fetch_below(base, limit, bytes, at.0) else {
+        return Seen::Outside;
+    };
+    put(&mut *out, next, stage, level, at.0, e);
+    Seen::Entry(t.judge(level, address, e))
 }
 
 // What the second stage asks of a leaf, with so many first-stage levels left.
@@ -99,15 +128,25 @@ pub fn walk(
     let mut level = levels - 1;
     let mut at = tables.ppn * 4096 + 8 * rules::root_index(levels, address);
     loop {
-        let Entry::Value(e) = fetch_below(base, limit, bytes, at) else {
+        let seen = inspect(
+            base,
+            limit,
+            bytes,
+            t,
+            2,
+            level,
+            address,
+            Machine(at),
+            next,
+            &mut *out,
+        );
+        let Seen::Entry(j) = seen else {
             return Progress {
                 next,
                 reached: Reached::Failed(a.access_fault()),
             };
         };
-        put(&mut *out, next, 2, level, at, e);
         next = next + 4;
-        let j = t.judge(level, address, e);
         match j {
             Judgement::Bad => {
                 return Progress {

@@ -1,5 +1,5 @@
 use mathlib.Core.Path.{_≡_, sym, _∙_}
-use Prim.Native.Nat.{_+_, _-_, _≤_}
+use Prim.Native.Nat.{_-_, _<_}
 use native.Mathlib.Omega.{arith}
 use lib.Dec.{eqb}
 use lib.ListN.{length}
@@ -7,14 +7,12 @@ use denote.Ref.{now}
 use borrow.Author.Needs.{needs}
 use borrow.Author.Tests.{eqb-true}
 use Rattle.bits.proofs.Bools.{and-left, and-right}
-use Rattle.image.specs.declared.Entry.the-variants.{Value}
-use Rattle.rules.specs.Entry.{judged}
-use Rattle.rules.proofs.Judgements.{pointer-bounds}
+use Rattle.rules.specs.Test.{testOf}
 use Rattle.access.specs.Needs.{firstNeed}
 use Rattle.stages.specs.Stages.{yields, look}
-use Rattle.second_stage.specs.Words.{result}
+use Rattle.second_stage.specs.Words.{result, Sees}
 use Rattle.second_stage.proofs.Descents.{off}
-use Rattle.engine.proofs.Walks.{Walks, Arrives, astray, start, arrives, failed, finished, has-room, outside, bad, leaf, further}
+use Rattle.engine.proofs.Walks.{Walks, Arrives, astray, start, arrives, failed, finished, has-room, outside, bad, leaf, bounds, further}
 use Rattle.engine.proofs.walk_into.Statement.{statement}
 use Rattle.engine.proofs.walk_into.Tie as tie
 
@@ -67,59 +65,51 @@ reached r = rw (r .reached .given .1) at (arrival (r .before .before .before .be
 returns-4 : tie.Need-returns-4 Inv-loop μ-loop
 returns-4 c = rw (c .conclude2 .ensures) (finished (reached (c .before .before .before)) (c .before .if3 .taken))
 
-fetch-below-requires : tie.Need-fetch-below-requires Inv-loop μ-loop
-fetch-below-requires c κs = (c .before .before .before .before .before .before .before .before .before .before .before .before .before .before .before .before .before .before .before .before .before .pre .0, c .before .before .before .before .before .before .before .before .before .before .before .before .before .before .before .before .before .before .limit .ensures)
+inspect-requires : tie.Need-inspect-requires Inv-loop μ-loop
+inspect-requires c κs =
+    let on : 0 < c .before .before .before .before .before .before .before .before .before .loop .left = omega (arith, c .before .if3 .left) in
+    (c .before .before .before .before .before .before .before .before .before .before .before .before .before .before .before .before .before .before .before .before .before .before .pre .0, c .before .before .before .before .before .before .before .before .before .before .before .before .before .before .before .before .before .before .before .limit .ensures, omega (arith, c .before .before .before .before .before .before .before .before .before .loop .inv .depth, c .before .before .before .before .before .before .before .before .before .before .before .before .before .before .before .before .before .before .before .before .before .before .pre .1 .first), has-room (reached (c .before .before .before)) on)
 
 returns-5 : tie.Need-returns-5 Inv-loop μ-loop
-returns-5 c = rw (c .access-fault .ensures) (outside (reached (c .before .before .before .before .before .before)) (omega (arith, c .before .before .before .before .if3 .left)) (sym (c .before .before .before .fetch-below .ensures) ∙ c .before .enum-told2 .given .1))
+returns-5 c = rw (c .access-fault .ensures) (outside (reached (c .before .before .before .before .before .before .before .before .before)) (omega (arith, c .before .before .before .before .before .before .before .if3 .left)) (rw (c .before .enum-told2 .given .1) at (c .before .before .before .before .before .inspect .ensures)))
 
--- a read's words fit
-room : (e : tie.After-e Inv-loop μ-loop) → e .before .before .before .before .before .before .before .before .before .walk .result .next + 4 ≤ length (e .before .before .before .before .before .before .before .before .before .walk .last .1 .1 .1 .1 .1 .1 .1 .0)
-room e = has-room (reached (e .before .before .before .before .before)) (omega (arith, e .before .before .before .if3 .left))
+-- the entry that was read, and what it is; a first-stage level was left for it
+sees : (k : tie.After-seen Inv-loop μ-loop) → let a = k .before .before .before .before .before .before .before .before .before .before .before .before .before .before .before .before .before .before .before .before .before .before .before .before .before .before .before .args in
+    Sees (look (a .base) (now (a .bytes))) (k .before .before .before .before .before .before .before .before .before .before .before .before .before .before .before .test .result) 1 (k .before .before .before .before .before .before .before .before .before .before .before .before .before .before .loop .left - 1) (a .a .address) (k .before .before .before .before .before .before .before .before .reached .given .0 .0) (k .before .before .before .before .before .before .before .before .before .before .before .before .walk .result .next) (k .before .before .before .before .before .before .before .before .before .before .before .before .walk .last .1 .1 .1 .1 .1 .1 .1 .0) (k .before .before .before .before .inspect .last .1 .1 .1 .1 .1 .1 .1 .1 .1 .0) (k .seen .given .0 .0)
+sees k = rw (k .seen .given .1) at (k .before .before .before .before .inspect .ensures)
 
-put-requires : tie.Need-put-requires Inv-loop μ-loop
-put-requires c κs = omega (arith, room (c .before .before))
+tested : (k : tie.After-seen Inv-loop μ-loop) → k .before .before .before .before .before .before .before .before .before .before .before .before .before .before .before .test .result ≡ testOf (firstNeed (k .before .before .before .before .before .before .before .before .before .before .before .before .before .before .before .before .before .before .before .before .before .before .before .before .before .before .before .args .a))
+tested k = rw (k .before .before .before .before .before .before .before .before .before .before .before .before .before .before .before .before .first-need .ensures) at (k .before .before .before .before .before .before .before .before .before .before .before .before .before .before .before .test .ensures)
+
+on : (k : tie.After-seen Inv-loop μ-loop) → 0 < k .before .before .before .before .before .before .before .before .before .before .before .before .before .before .loop .left
+on k = omega (arith, k .before .before .before .before .before .before .if3 .left)
 
 add-next : tie.Need-add-next Inv-loop μ-loop
-add-next c = omega (arith, room (c .before .before .before .before .before), arrival (c .before .before .before .before .before .before .before .before .before .before .before .before .before .before) .size, c .before .before .before .before .before .before .before .before .before .before .before .before .before .before .before .before .before .before .before .before .before .before .before .before .before .before .before .before .before .good .1 .1 .1 .1 .0)
-
-judge-requires : tie.Need-judge-requires Inv-loop μ-loop
-judge-requires c κs = omega (arith, c .before .before .before .before .before .before .before .before .before .before .before .before .before .before .before .before .loop .inv .depth, c .before .before .before .before .before .before .before .before .before .before .before .before .before .before .before .before .before .before .before .before .before .before .before .before .before .before .before .before .before .pre .1 .first, c .before .before .before .before .before .before .before .before .if3 .left)
-
--- the entry that is judged, and what it is
-seen : (q : tie.After-judge Inv-loop μ-loop) → let a = q .before .before .before .before .before .before .before .before .before .before .before .before .before .before .before .before .before .before .before .before .before .before .before .before .before .before .before .before .before .before .args in look (a .base) (now (a .bytes)) (q .before .before .before .before .before .before .before .before .before .before .before .reached .given .0 .0) ≡ Value (q .before .before .before .before .before .before .e .given .0 .0)
-seen q = sym (q .before .before .before .before .before .before .before .before .fetch-below .ensures) ∙ q .before .before .before .before .before .before .e .given .1
-
-judgement : (q : tie.After-judge Inv-loop μ-loop) → let a = q .before .before .before .before .before .before .before .before .before .before .before .before .before .before .before .before .before .before .before .before .before .before .before .before .before .before .before .before .before .before .args in judged (firstNeed (a .a)) (q .before .before .before .before .before .before .before .before .before .before .before .before .before .before .before .before .before .loop .left - 1) (a .a .address) (q .before .before .before .before .before .before .e .given .0 .0) ≡ q .judge .result
-judgement q = sym (q .judge .ensures _ (rw (q .before .before .before .before .before .before .before .before .before .before .before .before .before .before .before .before .before .before .before .first-need .ensures) at (q .before .before .before .before .before .before .before .before .before .before .before .before .before .before .before .before .before .before .test .ensures)))
+add-next c = omega (arith, has-room (reached (c .before .before .before .before .before .before .before .before .before)) (on (c .before)), arrival (c .before .before .before .before .before .before .before .before .before .before .before .before .before) .size, c .before .before .before .before .before .before .before .before .before .before .before .before .before .before .before .before .before .before .before .before .before .before .before .before .before .before .before .before .good .1 .1 .1 .1 .0)
 
 returns-6 : tie.Need-returns-6 Inv-loop μ-loop
-returns-6 c =
-    rw (c .page-fault2 .ensures, c .before .before .before .before .before .before .put .ensures)
-    (bad (reached (c .before .before .before .before .before .before .before .before .before .before .before .before .before .before)) (omega (arith, c .before .before .before .before .before .before .before .before .before .before .before .before .if3 .left)) (seen (c .before .before .before)) (judgement (c .before .before .before) ∙ c .before .enum-told3 .given .1))
+returns-6 c = rw (c .page-fault2 .ensures) (bad (reached (c .before .before .before .before .before .before .before .before .before .before .before .before)) (on (c .before .before .before .before)) (tested (c .before .before .before .before)) (sees (c .before .before .before .before)) (c .before .enum-told3 .given .1))
 
 loop-less : tie.Need-loop-less Inv-loop μ-loop
-loop-less c = omega (arith, c .before .before .before .before .before .before .before .before .before .before .before .before .if3 .left)
+loop-less c = on (c .before .before .before .before)
 
 loop-again : tie.Need-loop-again Inv-loop μ-loop
-loop-again c = rw (c .before .before .before .before .before .before .put .ensures) (leaf (reached (c .before .before .before .before .before .before .before .before .before .before .before .before .before .before)) (omega (arith, c .before .before .before .before .before .before .before .before .before .before .before .before .if3 .left)) (seen (c .before .before .before)) (judgement (c .before .before .before) ∙ c .before .j .given .1))
+loop-again c = leaf (reached (c .before .before .before .before .before .before .before .before .before .before .before .before)) (on (c .before .before .before .before)) (tested (c .before .before .before .before)) (sees (c .before .before .before .before)) (c .before .j .given .1)
 
 sub-index : tie.Need-sub-index Inv-loop μ-loop
-sub-index c = omega (arith, pointer-bounds _ _ _ _ _ (judgement (c .before .before .before) ∙ c .before .j2 .given .1) .0)
+sub-index c = omega (arith, bounds (reached (c .before .before .before .before .before .before .before .before .before .before .before .before)) (on (c .before .before .before .before)) (tested (c .before .before .before .before)) (sees (c .before .before .before .before)) (c .before .j2 .given .1) .0)
 
 index-requires : tie.Need-index-requires Inv-loop μ-loop
-index-requires c κs = omega (arith, c .before .before .before .before .before .before .before .before .before .before .before .before .before .before .before .before .before .before .before .before .loop .inv .depth, c .before .before .before .before .before .before .before .before .before .before .before .before .before .before .before .before .before .before .before .before .before .before .before .before .before .before .before .before .before .before .before .before .before .pre .1 .first)
+index-requires c κs = omega (arith, c .before .before .before .before .before .before .before .before .before .before .before .before .before .before .before .before .before .before .loop .inv .depth, c .before .before .before .before .before .before .before .before .before .before .before .before .before .before .before .before .before .before .before .before .before .before .before .before .before .before .before .before .before .before .before .pre .1 .first)
 
-add-t48 : tie.Need-add-t48 Inv-loop μ-loop
-add-t48 c = omega (arith, pointer-bounds _ _ _ _ _ (judgement (c .before .before .before .before) ∙ c .before .before .j2 .given .1) .1, c .index .ensures .1)
+add-t45 : tie.Need-add-t45 Inv-loop μ-loop
+add-t45 c = omega (arith, bounds (reached (c .before .before .before .before .before .before .before .before .before .before .before .before .before)) (on (c .before .before .before .before .before)) (tested (c .before .before .before .before .before)) (sees (c .before .before .before .before .before)) (c .before .before .j2 .given .1) .1, c .index .ensures .1)
 
 loop-less-2 : tie.Need-loop-less-2 Inv-loop μ-loop
-loop-less-2 c = omega (arith, c .before .before .before .before .before .before .before .before .before .before .before .before .before .if3 .left)
+loop-less-2 c = omega (arith, on (c .before .before .before .before .before))
 
 loop-again-2 : tie.Need-loop-again-2 Inv-loop μ-loop
-loop-again-2 c =
-    rw (c .before .before .before .before .before .before .before .put .ensures)
-    (further (reached (c .before .before .before .before .before .before .before .before .before .before .before .before .before .before .before)) (omega (arith, c .before .before .before .before .before .before .before .before .before .before .before .before .before .if3 .left)) (seen (c .before .before .before .before)) (judgement (c .before .before .before .before) ∙ c .before .before .j2 .given .1) (c .index .ensures .0))
+loop-again-2 c = further (reached (c .before .before .before .before .before .before .before .before .before .before .before .before .before)) (on (c .before .before .before .before .before)) (tested (c .before .before .before .before .before)) (sees (c .before .before .before .before .before)) (c .before .before .j2 .given .1) (c .index .ensures .0)
 
 pub walk-into-spec : {M : Type 1} → statement M
 walk-into-spec =
@@ -127,7 +117,6 @@ walk-into-spec =
     (tie.spec
     Inv-loop μ-loop (λ c κs. search needs) (λ c κs. search needs) (λ c κs. search needs) returns (λ c κs. search needs) (λ c κs. search needs)
     (λ c κs. search needs) returns-2 (λ c κs. search needs) (λ c κs. search needs) loop-holds walk-requires (λ c. search needs) (λ c. search needs)
-    (λ c. search needs) returns-3 (λ c κs. search needs) (λ c. search needs) returns-4 fetch-below-requires (λ c. search needs) (λ c. search needs)
-    (λ c κs. search needs) (λ c. search needs) returns-5 (λ c. search needs) put-requires add-next judge-requires (λ c. search needs)
-    (λ c κs. search needs) (λ c. search needs) returns-6 (λ c. search needs) loop-less loop-again (λ c. search needs) sub-index index-requires
-    (λ c. search needs) add-t48 loop-less-2 loop-again-2)
+    (λ c. search needs) returns-3 (λ c κs. search needs) (λ c. search needs) returns-4 (λ c. search needs) inspect-requires (λ c. search needs)
+    (λ c. search needs) (λ c κs. search needs) (λ c. search needs) returns-5 add-next (λ c. search needs) (λ c κs. search needs) (λ c. search needs)
+    returns-6 (λ c. search needs) loop-less loop-again (λ c. search needs) sub-index index-requires (λ c. search needs) add-t45 loop-less-2 loop-again-2)

@@ -1,14 +1,11 @@
-use mathlib.Core.Path.{_≡_, sym, _∙_}
+use mathlib.Core.Path.{sym, _∙_}
 use native.Mathlib.Omega.{arith}
 use denote.Ref.{now}
 use borrow.Author.Needs.{needs}
 use borrow.Author.Tests.{not-true, not-false}
-use Rattle.image.specs.declared.Entry.the-variants.{Value}
-use Rattle.rules.specs.Entry.{judged}
-use Rattle.rules.proofs.Judgements.{pointer-bounds}
 use Rattle.stages.specs.Stages.{look, machine}
-use Rattle.second_stage.specs.Place.{needAt}
-use Rattle.second_stage.proofs.Descents.{Descends, off, too-large, from-root, outside, bad, leaf, further}
+use Rattle.second_stage.specs.Words.{Sees}
+use Rattle.second_stage.proofs.Descents.{Descends, off, too-large, from-root, outside, bad, leaf, bounds, further}
 use Rattle.second_stage.proofs.walk.Statement.{statement}
 use Rattle.second_stage.proofs.walk.Tie as tie
 
@@ -38,45 +35,48 @@ loop-holds c =
     from-root (look (a .base) (now (a .bytes))) (a .a) (a .left) (a .guest) (now (a .out)) (a .from) (omega (arith, c .before .before .before .before .before .if1 .left))
     (sym (c .before .before .before .before .is-small .ensures) ∙ not-false _ (c .before .before .before .if2 .left)) (c .before .before .before .before .before .before .before .before .before .pre .3) (c .root-index .result) (c .root-index .ensures .0)
 
+inspect-requires : tie.Need-inspect-requires Inv-loop μ-loop
+inspect-requires c κs =
+    (c .before .before .before .before .before .before .before .before .before .before .before .pre .0, c .before .before .before .before .before .before .before .before .before .before .before .pre .1, omega (arith, c .before .loop .inv .under, c .before .before .before .before .before .before .before .before .before .before .before .pre .2 .second), omega (arith, c .before .loop .inv .room))
+
 returns-3 : tie.Need-returns-3 Inv-loop μ-loop
-returns-3 c = rw (c .access-fault .ensures) (outside (c .before .before .before .before .loop .inv) (sym (c .before .before .before .fetch-below .ensures) ∙ c .before .enum-told .given .1))
+returns-3 c = rw (c .access-fault .ensures) (outside (c .before .before .before .before .before .before .before .loop .inv) (rw (c .before .enum-told .given .1) at (c .before .before .before .before .before .inspect .ensures)))
 
 add-next : tie.Need-add-next Inv-loop μ-loop
-add-next c = omega (arith, c .before .before .before .before .before .before .before .before .loop .inv .room, c .before .before .before .before .before .before .before .before .loop .inv .size, c .before .before .before .before .before .before .before .before .before .before .before .before .before .before .before .before .before .before .good .1 .1 .1 .1 .1 .1 .1 .0)
+add-next c = omega (arith, c .before .before .before .before .before .before .before .loop .inv .room, c .before .before .before .before .before .before .before .loop .inv .size, c .before .before .before .before .before .before .before .before .before .before .before .before .before .before .before .before .before .good .1 .1 .1 .1 .1 .1 .1 .0)
 
--- the entry that is judged, and what it is
-seen : (q : tie.After-judge Inv-loop μ-loop) → let a = q .before .before .before .before .before .before .before .before .before .before .before .before .before .before .before .before .before .before .before .args in look (a .base) (now (a .bytes)) (machine (q .before .before .before .before .before .before .before .before .before .loop .at)) ≡ Value (q .before .before .before .before .before .before .e .given .0 .0)
-seen q = sym (q .before .before .before .before .before .before .before .before .fetch-below .ensures) ∙ q .before .before .before .before .before .before .e .given .1
-
-judgement : (q : tie.After-judge Inv-loop μ-loop) → let a = q .before .before .before .before .before .before .before .before .before .before .before .before .before .before .before .before .before .before .before .args in judged (needAt (a .a) (a .left)) (q .before .before .before .before .before .before .before .before .before .loop .level) (a .guest .0) (q .before .before .before .before .before .before .e .given .0 .0) ≡ q .judge .result
-judgement q = sym (q .judge .ensures _ (q .before .before .before .before .before .before .before .before .before .before .before .before .test .ensures))
+-- the entry that was read, and what it is
+sees : (k : tie.After-seen Inv-loop μ-loop) → let a = k .before .before .before .before .before .before .before .before .before .before .before .before .before .before .before .before .args in
+    let l = k .before .before .before .before .before .before .loop in
+    Sees (look (a .base) (now (a .bytes))) (k .before .before .before .before .before .before .before .before .before .test .result) 2 (l .level) (a .guest .0) (machine (l .at)) (l .next) (l .out) (k .before .before .before .before .inspect .last .1 .1 .1 .1 .1 .1 .1 .1 .1 .0) (k .seen .given .0 .0)
+sees k = rw (k .seen .given .1) at (k .before .before .before .before .inspect .ensures)
 
 returns-4 : tie.Need-returns-4 Inv-loop μ-loop
-returns-4 c = rw (c .fault2 .ensures, c .before .before .before .before .before .before .put .ensures) (bad (c .before .before .before .before .before .before .before .before .before .before .before .before .loop .inv) (seen (c .before .before .before)) (judgement (c .before .before .before) ∙ c .before .enum-told2 .given .1))
+returns-4 c = rw (c .fault2 .ensures) (bad (c .before .before .before .before .before .before .before .before .before .before .loop .inv) (c .before .before .before .before .before .before .before .before .before .before .before .before .before .test .ensures) (sees (c .before .before .before .before)) (c .before .enum-told2 .given .1))
 
 returns-5 : tie.Need-returns-5 Inv-loop μ-loop
-returns-5 c = rw (c .before .before .before .before .before .before .put .ensures) (leaf (c .before .before .before .before .before .before .before .before .before .before .before .before .loop .inv) (seen (c .before .before .before)) (judgement (c .before .before .before) ∙ c .before .j .given .1))
+returns-5 c = leaf (c .before .before .before .before .before .before .before .before .before .before .loop .inv) (c .before .before .before .before .before .before .before .before .before .before .before .before .before .test .ensures) (sees (c .before .before .before .before)) (c .before .j .given .1)
 
 sub-level-2 : tie.Need-sub-level-2 Inv-loop μ-loop
-sub-level-2 c = omega (arith, pointer-bounds _ _ _ _ _ (judgement (c .before .before .before) ∙ c .before .j2 .given .1) .0)
+sub-level-2 c = omega (arith, bounds (c .before .before .before .before .before .before .before .before .before .before .loop .inv) (c .before .before .before .before .before .before .before .before .before .before .before .before .before .test .ensures) (sees (c .before .before .before .before)) (c .before .j2 .given .1) .0)
 
 index-requires : tie.Need-index-requires Inv-loop μ-loop
-index-requires c κs = omega (arith, c .before .before .before .before .before .before .before .before .before .before .before .before .loop .inv .under, c .before .before .before .before .before .before .before .before .before .before .before .before .before .before .before .before .before .before .before .before .before .before .pre .2 .second)
+index-requires c κs = omega (arith, c .before .before .before .before .before .before .before .before .before .before .loop .inv .under, c .before .before .before .before .before .before .before .before .before .before .before .before .before .before .before .before .before .before .before .before .pre .2 .second)
 
 add-at-2 : tie.Need-add-at-2 Inv-loop μ-loop
-add-at-2 c = omega (arith, pointer-bounds _ _ _ _ _ (judgement (c .before .before .before .before) ∙ c .before .before .j2 .given .1) .1, c .index .ensures .1)
+add-at-2 c = omega (arith, bounds (c .before .before .before .before .before .before .before .before .before .before .before .loop .inv) (c .before .before .before .before .before .before .before .before .before .before .before .before .before .before .test .ensures) (sees (c .before .before .before .before .before)) (c .before .before .j2 .given .1) .1, c .index .ensures .1)
 
 loop-less : tie.Need-loop-less Inv-loop μ-loop
-loop-less c = omega (arith, pointer-bounds _ _ _ _ _ (judgement (c .before .before .before .before) ∙ c .before .before .j2 .given .1) .0)
+loop-less c = omega (arith, bounds (c .before .before .before .before .before .before .before .before .before .before .before .loop .inv) (c .before .before .before .before .before .before .before .before .before .before .before .before .before .before .test .ensures) (sees (c .before .before .before .before .before)) (c .before .before .j2 .given .1) .0)
 
 loop-again : tie.Need-loop-again Inv-loop μ-loop
-loop-again c = rw (c .before .before .before .before .before .before .before .put .ensures) (further (c .before .before .before .before .before .before .before .before .before .before .before .before .before .loop .inv) (seen (c .before .before .before .before)) (judgement (c .before .before .before .before) ∙ c .before .before .j2 .given .1) (c .index .ensures .0))
+loop-again c = further (c .before .before .before .before .before .before .before .before .before .before .before .loop .inv) (c .before .before .before .before .before .before .before .before .before .before .before .before .before .before .test .ensures) (sees (c .before .before .before .before .before)) (c .before .before .j2 .given .1) (c .index .ensures .0)
 
 pub walk-spec : {M : Type 1} → statement M
 walk-spec =
     tie.close
     (tie.spec
-    Inv-loop μ-loop (λ c κs. search needs) returns (λ c κs. search needs) (λ c κs. search needs) returns-2 (λ c κs. search needs) (λ c. search needs) (λ c. search needs)
-    root-index-requires (λ c. search needs) (λ c. search needs) loop-holds (λ c κs. search needs) (λ c. search needs) (λ c. search needs) (λ c κs. search needs)
-    (λ c. search needs) returns-3 (λ c κs. search needs) add-next (λ c κs. search needs) (λ c. search needs) (λ c κs. search needs) (λ c. search needs)
-    returns-4 (λ c. search needs) (λ c. search needs) returns-5 (λ c. search needs) sub-level-2 index-requires (λ c. search needs) add-at-2 loop-less loop-again)
+    Inv-loop μ-loop (λ c κs. search needs) returns (λ c κs. search needs) (λ c κs. search needs) returns-2 (λ c κs. search needs) (λ c. search needs)
+    (λ c. search needs) root-index-requires (λ c. search needs) (λ c. search needs) loop-holds inspect-requires (λ c. search needs) (λ c. search needs)
+    (λ c κs. search needs) (λ c. search needs) returns-3 add-next (λ c. search needs) (λ c κs. search needs) (λ c. search needs) returns-4
+    (λ c. search needs) (λ c. search needs) returns-5 (λ c. search needs) sub-level-2 index-requires (λ c. search needs) add-at-2 loop-less loop-again)
