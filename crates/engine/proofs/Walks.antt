@@ -2,12 +2,11 @@
 use mathlib.Core.Path.{_≡_, refl, sym, ap, _∙_}
 use mathlib.Core.Bool.{Bool, true, false, _&&_, not}
 use mathlib.Core.List.{List}
-use Prim.Native.Nat.{ℕ, zero, suc, _+_, _-_, _*_, _^_, _<_, _≤_}
+use Prim.Native.Nat.{ℕ, zero, suc, _+_, _-_, _*_, _<_, _≤_}
 use native.Mathlib.Nat.{mul-one, suc-mul, mul-le-mul, le-refl}
 use native.Mathlib.Omega.{arith}
 use lib.Dec.{eqb, eqb·suc-zero}
 use lib.ListN.{length}
-use lib.Seq.{length-sets}
 use borrow.Author.Tests.{eqb-true, eqb-false}
 use Rattle.bits.specs.Field.{get, pick}
 use Rattle.bits.proofs.Bools.{clash}
@@ -18,7 +17,6 @@ use Rattle.rules.specs.declared.Judgement.the-variants.{Pointer, Leaf, Bad}
 use Rattle.rules.specs.Address.{wellFormed, first, indexBits, index}
 use Rattle.rules.specs.declared.Test.{Test}
 use Rattle.rules.specs.Test.{testOf}
-use Rattle.rules.proofs.Judgements.{pointer-bounds}
 use Rattle.access.specs.declared.Access.{Access}
 use Rattle.access.specs.declared.Guest.{Guest}
 use Rattle.access.specs.declared.Machine.{Machine}
@@ -32,7 +30,7 @@ use Rattle.stages.proofs.Bounds.{Within, within-begin}
 use Rattle.second_stage.specs.Words.{Into, onto, into, Sees}
 use Rattle.second_stage.specs.Place.{second-at, below}
 use Rattle.engine.specs.Place.{arrived, entered, reach, startGuest, strays}
-use Rattle.second_stage.proofs.Descents.{down-at, below-at, entry-outside, entry-read}
+use Rattle.second_stage.proofs.Descents.{down-at, below-at, entry-outside, entry-read, kept, bounds}
 use Rattle.second_stage.proofs.Runs.{into-bind, into-then, into-room}
 
 positive : (n : ℕ) → eqb n 0 ≡ false → 0 < n
@@ -163,17 +161,14 @@ module _ {look : Machine → Entry} {base len : ℕ} {a : Access} {out₀ : List
           sym (into-then look (onward (final base len a)) (inspect (first-of a) (left - 1) tables m) (follow (first-of a) j tables) out out′ next (next + 4)
           (entry-read look (first-of a) tables (left - 1) next m out out′ p s)) ∙ entry
 
-      pub size-kept : length out′ ≡ length out
-      size-kept = ap length (s .listed) ∙ simp length-sets
-
       stays : (l : ℕ) (g : Guest) → suc l ≤ left → into look (entered base len a l g) out′ (next + 4) ≡ all look base len a out₀ from → Walks look base len a out₀ from out′ (next + 4) l g
       stays l g k w =
           let q : suc l * suc (a .second .levels) ≤ left * suc (a .second .levels) = mul-le-mul k (le-refl (suc (a .second .levels))) in
           record {
             same = w;
             depth = omega (arith, h .depth);
-            room = omega (arith, h .room, suc-mul l (suc (a .second .levels)), size-kept);
-            size = size-kept ∙ h .size;
+            room = omega (arith, h .room, suc-mul l (suc (a .second .levels)), kept s);
+            size = kept s ∙ h .size;
           }
 
       pub bad : j ≡ Bad → onto out′ (next + 4) (faults (pageFault a)) ≡ all look base len a out₀ from
@@ -184,10 +179,7 @@ module _ {look : Machine → Entry} {base len : ℕ} {a : Access} {out₀ : List
       unfolding follow bind
       leaf {x} e = stays 0 (guest x) on (rw (entered-last base len a) (rw e at read))
 
-      pub bounds : {table : ℕ} → j ≡ Pointer table → (0 < left - 1) × (table < 2 ^ 56)
-      bounds {table} e = pointer-bounds (firstNeed a) (left - 1) (a .address) (s .value) table (sym (s .judgement (firstNeed a) p) ∙ e)
-
       pub further : {table i : ℕ} → j ≡ Pointer table → i ≡ get (indexBits 9 (left - 1 - 1)) (a .address) → Walks look base len a out₀ from out′ (next + 4) (left - 1) (guest (table + 8 * i))
       unfolding follow
       further {table} {i} e q =
-          stays (left - 1) (guest (table + 8 * i)) (omega arith) (rw (← first-pointer base len a (left - 1) table i (bounds e .0) q) (rw e at read))
+          stays (left - 1) (guest (table + 8 * i)) (omega arith) (rw (← first-pointer base len a (left - 1) table i (bounds s (firstNeed a) p e .0) q) (rw e at read))

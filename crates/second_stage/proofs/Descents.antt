@@ -12,6 +12,7 @@ use Rattle.image.specs.declared.Entry.the-variants.{Outside}
 use Rattle.rules.specs.declared.Judgement.{Judgement}
 use Rattle.rules.specs.declared.Judgement.the-variants.{Pointer, Leaf, Bad}
 use Rattle.rules.specs.Address.{wellFormed, second, number, indexBits, index}
+use Rattle.rules.specs.declared.Need.{Need}
 use Rattle.rules.specs.declared.Test.{Test}
 use Rattle.rules.specs.Test.{testOf}
 use Rattle.rules.proofs.Indices.{below-root}
@@ -49,6 +50,14 @@ module _ {A : Type 0} (look : Machine → Entry) (tr : Translation A) (next : �
       → into look (inspect tr level next m) out n ≡ into look (follow tr j next) out′ (n + 4)
   unfolding into inspect
   entry-read p s = rw (s .found, s .listed, s .judgement (tr .need) p)
+
+module _ {look : Machine → Entry} {t : Test} {stage level address : ℕ} {m : Machine} {n : ℕ} {out out′ : List ℕ} {j : Judgement}
+    (s : Sees look t stage level address m n out out′ j) where
+  pub kept : length out′ ≡ length out
+  kept = ap length (s .listed) ∙ simp length-sets
+
+  pub bounds : (need : Need) {table : ℕ} → t ≡ testOf need → j ≡ Pointer table → (0 < level) × (table < 2 ^ 56)
+  bounds need {table} p e = pointer-bounds need level address (s .value) table (sym (s .judgement need p) ∙ e)
 
 -- ---- the second stage
 
@@ -113,17 +122,14 @@ module _ {look : Machine → Entry} {a : Access} {left : ℕ} {g : Guest} {out�
     unfolding into follow
     leaf e = rw e at read
 
-    pub bounds : {table : ℕ} → j ≡ Pointer table → (0 < level) × (table < 2 ^ 56)
-    bounds {table} e = pointer-bounds (needAt a left) level (g .0) (s .value) table (sym (s .judgement (needAt a left) p) ∙ e)
-
     pub further : {table i : ℕ} → j ≡ Pointer table → i ≡ get (indexBits 9 (level - 1)) (g .0) → Descends look a left g out₀ from out′ (next + 4) (level - 1) (table + 8 * i)
     unfolding follow bind
     further {table} e q =
-        let b = below-root second (a .second .levels) (level - 1) (g .0) (omega (arith, d .under, bounds e .0)) in
-        let same-size : length out′ ≡ length out = ap length (s .listed) ∙ simp length-sets in
+        let high = bounds s (needAt a left) p e .0 in
+        let b = below-root second (a .second .levels) (level - 1) (g .0) (omega (arith, d .under)) in
         record {
-          same = rw (q, ← b) (rw (e, below-at (second-at a left g) level table (bounds e .0), down-at (second-at a left g) (level - 1) table) at read);
-          under = omega (arith, d .under, bounds e .0);
-          room = omega (arith, d .room, bounds e .0);
-          size = same-size ∙ d .size;
+          same = rw (q, ← b) (rw (e, below-at (second-at a left g) level table high, down-at (second-at a left g) (level - 1) table) at read);
+          under = omega (arith, d .under);
+          room = omega (arith, d .room, kept s);
+          size = kept s ∙ d .size;
         }

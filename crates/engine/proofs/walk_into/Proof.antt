@@ -11,8 +11,8 @@ use Rattle.rules.specs.Test.{testOf}
 use Rattle.access.specs.Needs.{firstNeed}
 use Rattle.stages.specs.Stages.{yields, look}
 use Rattle.second_stage.specs.Words.{result, Sees}
-use Rattle.second_stage.proofs.Descents.{off}
-use Rattle.engine.proofs.Walks.{Walks, Arrives, astray, start, arrives, failed, finished, has-room, outside, bad, leaf, bounds, further}
+use Rattle.second_stage.proofs.Descents.{bounds, off}
+use Rattle.engine.proofs.Walks.{Walks, Arrives, astray, start, arrives, failed, finished, has-room, outside, bad, leaf, further}
 use Rattle.engine.proofs.walk_into.Statement.{statement}
 use Rattle.engine.proofs.walk_into.Tie as tie
 
@@ -97,13 +97,13 @@ loop-again : tie.Need-loop-again Inv-loop μ-loop
 loop-again c = leaf (reached (c .before .before .before .before .before .before .before .before .before .before .before .before)) (on (c .before .before .before .before)) (tested (c .before .before .before .before)) (sees (c .before .before .before .before)) (c .before .j .given .1)
 
 sub-index : tie.Need-sub-index Inv-loop μ-loop
-sub-index c = omega (arith, bounds (reached (c .before .before .before .before .before .before .before .before .before .before .before .before)) (on (c .before .before .before .before)) (tested (c .before .before .before .before)) (sees (c .before .before .before .before)) (c .before .j2 .given .1) .0)
+sub-index c = omega (arith, bounds (sees (c .before .before .before .before)) _ (tested (c .before .before .before .before)) (c .before .j2 .given .1) .0)
 
 index-requires : tie.Need-index-requires Inv-loop μ-loop
 index-requires c κs = omega (arith, c .before .before .before .before .before .before .before .before .before .before .before .before .before .before .before .before .before .before .loop .inv .depth, c .before .before .before .before .before .before .before .before .before .before .before .before .before .before .before .before .before .before .before .before .before .before .before .before .before .before .before .before .before .before .before .pre .1 .first)
 
 add-t45 : tie.Need-add-t45 Inv-loop μ-loop
-add-t45 c = omega (arith, bounds (reached (c .before .before .before .before .before .before .before .before .before .before .before .before .before)) (on (c .before .before .before .before .before)) (tested (c .before .before .before .before .before)) (sees (c .before .before .before .before .before)) (c .before .before .j2 .given .1) .1, c .index .ensures .1)
+add-t45 c = omega (arith, bounds (sees (c .before .before .before .before .before)) _ (tested (c .before .before .before .before .before)) (c .before .before .j2 .given .1) .1, c .index .ensures .1)
 
 loop-less-2 : tie.Need-loop-less-2 Inv-loop μ-loop
 loop-less-2 c = omega (arith, on (c .before .before .before .before .before))

@@ -58,16 +58,16 @@ returns-5 : tie.Need-returns-5 Inv-loop μ-loop
 returns-5 c = leaf (c .before .before .before .before .before .before .before .before .before .before .loop .inv) (c .before .before .before .before .before .before .before .before .before .before .before .before .before .test .ensures) (sees (c .before .before .before .before)) (c .before .j .given .1)
 
 sub-level-2 : tie.Need-sub-level-2 Inv-loop μ-loop
-sub-level-2 c = omega (arith, bounds (c .before .before .before .before .before .before .before .before .before .before .loop .inv) (c .before .before .before .before .before .before .before .before .before .before .before .before .before .test .ensures) (sees (c .before .before .before .before)) (c .before .j2 .given .1) .0)
+sub-level-2 c = omega (arith, bounds (sees (c .before .before .before .before)) _ (c .before .before .before .before .before .before .before .before .before .before .before .before .before .test .ensures) (c .before .j2 .given .1) .0)
 
 index-requires : tie.Need-index-requires Inv-loop μ-loop
 index-requires c κs = omega (arith, c .before .before .before .before .before .before .before .before .before .before .loop .inv .under, c .before .before .before .before .before .before .before .before .before .before .before .before .before .before .before .before .before .before .before .before .pre .2 .second)
 
 add-at-2 : tie.Need-add-at-2 Inv-loop μ-loop
-add-at-2 c = omega (arith, bounds (c .before .before .before .before .before .before .before .before .before .before .before .loop .inv) (c .before .before .before .before .before .before .before .before .before .before .before .before .before .before .test .ensures) (sees (c .before .before .before .before .before)) (c .before .before .j2 .given .1) .1, c .index .ensures .1)
+add-at-2 c = omega (arith, bounds (sees (c .before .before .before .before .before)) _ (c .before .before .before .before .before .before .before .before .before .before .before .before .before .before .test .ensures) (c .before .before .j2 .given .1) .1, c .index .ensures .1)
 
 loop-less : tie.Need-loop-less Inv-loop μ-loop
-loop-less c = omega (arith, bounds (c .before .before .before .before .before .before .before .before .before .before .before .loop .inv) (c .before .before .before .before .before .before .before .before .before .before .before .before .before .before .test .ensures) (sees (c .before .before .before .before .before)) (c .before .before .j2 .given .1) .0)
+loop-less c = omega (arith, bounds (sees (c .before .before .before .before .before)) _ (c .before .before .before .before .before .before .before .before .before .before .before .before .before .before .test .ensures) (c .before .before .j2 .given .1) .0)
 
 loop-again : tie.Need-loop-again Inv-loop μ-loop
 loop-again c = further (c .before .before .before .before .before .before .before .before .before .before .before .loop .inv) (c .before .before .before .before .before .before .before .before .before .before .before .before .before .before .test .ensures) (sees (c .before .before .before .before .before)) (c .before .before .j2 .given .1) (c .index .ensures .0)
