@@ -23,6 +23,7 @@ asked n = bit «V» := 1 ∷ bit A := 1 ∷ span 63 54 := 0 ∷ (by (n .kind) []
 abbrev pub rights : Need → List Field
 rights n = by (n .kind) (bit X ∷ []) (bit R ∷ pick (n .mxr) (bit X ∷ []) []) (bit W ∷ [])
 
+-- the three as masks: the fields asked for, what they hold, the rights
 unfoldable pub testOf : Need → Test
 testOf n = record { mask = bits (map (λ a. a .field) (asked n)); bits = 0 after asked n; some = bits (rights n) }
 

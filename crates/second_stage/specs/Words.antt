@@ -38,6 +38,7 @@ onto ws n x = record { words = ws; next = n; end = x }
 abbrev pub stored : List ℕ → ℕ → (stage level at value : ℕ) → List ℕ
 stored ws n s l m v = sets ws n (s ∷ l ∷ m ∷ v ∷ [])
 
+-- a walk's run (`run` of stages), its reads stored one behind the other
 unfoldable pub into : {A : Type 0} → (Machine → Entry) → Walk A → List ℕ → ℕ → Into A
 into look (done x) ws n = onto ws n x
 into look (ask s l m outside k) ws n = found (look m) (into look outside ws n) (λ v. into look (k v) (stored ws n s l (m .0) v) (n + 4))
@@ -49,6 +50,7 @@ pub record Sees (look : Machine → Entry) (t : Test) (stage level address : ℕ
   pub listed : after ≡ stored before n stage level (m .0) value
   pub judgement : Judges t level address value j
 
+-- this, or nothing of the image is there and nothing was listed
 abbrev pub Inspects : (Machine → Entry) → Test → (stage level address : ℕ) → Machine → ℕ → (before after : List ℕ) → Seen → Type 0
 Inspects look t stage level address m n before after (Seen.Entry j) = Sees look t stage level address m n before after j
 Inspects look t stage level address m n before after Seen.Outside = (look m ≡ Outside) × (after ≡ before)
