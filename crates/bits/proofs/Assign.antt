@@ -19,3 +19,8 @@ kept g [] x t = refl
 kept g (a ∷ more) x t =
     other (a .field) g (and-left (apart (a .field) g) (untouched g more) t) (a .value) (x after more)
     ∙ kept g more x (and-right (apart (a .field) g) (untouched g more) t)
+
+-- no two assignments are to overlapping fields, so that their order doesn't matter
+abbrev pub distinct : List Assignment → Bool
+distinct [] = true
+distinct (a ∷ more) = untouched (a .field) more && distinct more

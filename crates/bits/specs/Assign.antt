@@ -14,7 +14,7 @@ infixl 5 _after_
 abbrev pub _:=_ : Field → ℕ → Assignment
 f := v = record { field = f; value = v }
 
--- x after the assignments, no two of which are to one field
+-- x after the assignments, of which no two are to overlapping fields (each list is tested: `distinct`)
 abbrev pub _after_ : ℕ → List Assignment → ℕ
 x after [] = x
 x after (a ∷ more) = put (a .field) (a .value) (x after more)

@@ -1,31 +1,27 @@
 -- Register access (document 01, "Access").
 use mathlib.Core.Bool.{Bool, true, false}
-use mathlib.Core.List.{[], _∷_}
 use Prim.Native.Nat.{ℕ}
 use lib.Bits.{bitAnd}
 use lib.Dec.{eqb}
 use lib.ListN as list
-use Rattle.bits.specs.Field.{pick, bits}
+use Rattle.bits.specs.Field.{pick}
+use Rattle.registers.specs.Rules.{stored}
+use Rattle.registers.specs.Registers.{View, at}
 use Rattle.table.specs.declared.Row.{Row}
 use Rattle.table.specs.declared.Found.{Found}
 use Rattle.table.specs.declared.Found.the-variants.{At, Nothing}
-use Rattle.registers.specs.Fields.{SIE, SPIE, SPP, SUM, MXR, UXL}
-use Rattle.registers.specs.Places.{sstatus, mstatus}
-use Rattle.registers.specs.Rules.{stored}
-use Rattle.registers.specs.Registers.{at}
-use Rattle.table.specs.Table.{table, firstAt}
-use Rattle.privilege.specs.Mode.{verdict}
+use Rattle.table.specs.Table.{table, firstAt, reached}
+use Rattle.privilege.specs.Mode.{gives}
 use Rattle.csr.specs.declared.Form.{Form}
 use Rattle.csr.specs.declared.Form.the-variants.{Read, Write, Set, Clear}
-use Rattle.csr.specs.Access.{reached, combined, home}
-use Rattle.csr.specs.Access as csr
+use Rattle.csr.specs.Access.{overRange, verdict, combined}
 use Rattle.hart.specs.declared.state.Hart.{Hart}
 use Rattle.hart.specs.declared.event.Outcome.{Outcome}
 use Rattle.hart.specs.declared.event.Outcome.the-variants.{Done, Trapped, Refused}
 use Rattle.hart.specs.declared.event.Step.{Step}
 use Rattle.hart.specs.declared.access.Accessed.{Accessed}
 use Rattle.hart.specs.Hart.{reg, context}
-use Rattle.hart.specs.Event.{done, settled, next}
+use Rattle.hart.specs.Event.{no-value, done, settled, next}
 
 -- all answer the old value, a trap or refusal answers 0
 abbrev pub valueOf : Outcome → ℕ → ℕ
@@ -36,29 +32,29 @@ valueOf (Refused number) old = 0
 abbrev pub answer : Step → ℕ → Accessed
 answer s old = record { hart = s .hart; outcome = s .outcome; value = valueOf (s .outcome) old }
 
--- sstatus is mstatus's SIE, SPIE, SPP, SUM, MXR and UXL
-abbrev pub seen : Hart → ℕ → ℕ
-seen h place = pick (eqb place sstatus) (bitAnd (reg h mstatus) (bits (SIE ∷ SPIE ∷ SPP ∷ SUM ∷ MXR ∷ UXL ∷ []))) (reg h place)
+-- what a read of a register shows
+abbrev pub seen : Hart → View → ℕ
+seen h v = bitAnd (reg h (v .home)) (v .shows)
 
--- a done access: the register written, if the access writes, and pc moved on by 4, wrapping
-unfoldable pub written : Hart → ℕ → ℕ → Bool → Hart
-written h place x writes = record {
+-- a done access: x written to the bits of a mask at the register's home, if the access writes, and pc moved on by 4, wrapping
+unfoldable pub written : Hart → (home mask x : ℕ) → Bool → Hart
+written h home mask x writes = record {
   v = h .v;
   privilege = h .privilege;
   pc = next (h .pc);
-  regs = pick writes (list.set (h .regs) (home place) (stored (at place .rule) (reg h (home place)) x)) (h .regs);
+  regs = pick writes (list.set (h .regs) home (stored home mask (reg h home) x)) (h .regs);
 }
 
 -- an access to the register of a row; own is the call's own refusal, or 0
 unfoldable pub accessRow : Hart → ℕ → ℕ → Row → Form → ℕ → Bool → Accessed
 accessRow h own place row form w writes =
-    let to : ℕ = reached (h .v) (row .level) place in
+    let to : View = reached (eqb (h .v) 1) (at place) in
     let old : ℕ = seen h to in
-    answer (settled h own (csr.verdict (context h) place row writes) (done (written h to (combined form old w) writes))) old
+    answer (settled h own (verdict (context h) row writes) no-value (done (written h (to .home) (to .writes) (combined form old w) writes))) old
 
 -- an unlisted number: cause 2 in every mode, so that the step that would be done never is
 abbrev pub unlisted : Hart → ℕ → Accessed
-unlisted h own = answer (settled h own (verdict true false) (done h)) 0
+unlisted h own = answer (settled h own (gives true false) no-value (done h)) 0
 
 -- the row that bears the number, or none
 abbrev pub accessFound : Found → Hart → ℕ → Form → ℕ → Bool → Accessed
@@ -66,7 +62,7 @@ accessFound Nothing h own form w writes = unlisted h own
 accessFound (At place row) h own form w writes = accessRow h own place row form w writes
 
 unfoldable pub access : Hart → Form → ℕ → ℕ → Bool → Accessed
-access h form number w writes = accessFound (firstAt table number 0) h (csr.refusal number) form w writes
+access h form number w writes = accessFound (firstAt table number 0) h (pick (overRange number) 5 0) form w writes
 
 abbrev pub read : Hart → ℕ → Accessed
 read h number = access h Read number 0 false

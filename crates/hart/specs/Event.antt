@@ -32,20 +32,24 @@ refused h number = step h (Refused number)
 abbrev pub trapped : Hart → Exception → Step
 trapped h t = step (delivered h t) (Trapped (t .cause))
 
--- causes 2 and 22 raised by the model, and environment calls: value 0; the flag is clear; second value and word are 0
-abbrev pub cause-only : ℕ → Exception
-cause-only cause = record { cause = cause; value = 0; second = 0; word = 0; flag = false }
+-- "In all these but the breakpoint the flag is clear; second value and word are 0": causes 2 and 22 raised by the model, environment calls
+abbrev pub plain : (cause value : ℕ) → Exception
+plain cause value = record { cause = cause; value = value; second = 0; word = 0; flag = false }
 
-abbrev pub raised : Hart → ℕ → Step
-raised h cause = trapped h (cause-only cause)
+-- "Causes 2 and 22 raised by the model have value 0."
+abbrev pub no-value : ℕ
+no-value = 0
 
--- order: 2, then the call's own (0: none); then the cause that the instruction gives; else the step that is done
-unfoldable pub settled : Hart → ℕ → Verdict → Step → Step
-settled h own verdict finished =
+abbrev pub raised : Hart → (cause value : ℕ) → Step
+raised h cause value = trapped h (plain cause value)
+
+-- order: 2, then the call's own (0: none); then the cause that the instruction gives, with its value; else the step that is done
+unfoldable pub settled : Hart → (own : ℕ) → Verdict → (value : ℕ) → Step → Step
+settled h own verdict value finished =
     pick (not (passes h)) (refused h 2)
     (pick (not (eqb own 0)) (refused h own)
-    (pick (verdict .gives2) (raised h 2)
-    (pick (verdict .gives22) (raised h 22) finished)))
+    (pick (verdict .gives2) (raised h 2 value)
+    (pick (verdict .gives22) (raised h 22 value) finished)))
 
 -- an instruction moves pc on by 4, wrapping
 abbrev pub next : ℕ → ℕ

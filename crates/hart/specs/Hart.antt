@@ -9,11 +9,11 @@ use Rattle.privilege.specs.declared.Context.{Context}
 use Rattle.privilege.specs.Mode.{amongFive, strayMPRV}
 use Rattle.hart.specs.declared.state.Hart.{Hart}
 
--- what a register holds
+-- what a place holds
 abbrev pub reg : Hart → ℕ → ℕ
 reg h place = getD (h .regs) place 0
 
--- a hart to start from: every register holds what a write of 0 leaves
+-- a hart to start from: no stored bit of a register is set
 abbrev pub reset : (v privilege pc : ℕ) → Hart
 reset v privilege pc = record { v = v; privilege = privilege; pc = pc; regs = initial }
 

@@ -11,7 +11,7 @@ use Rattle.hart.specs.declared.state.Hart.{Hart}
 use Rattle.hart.specs.declared.event.Step.{Step}
 use Rattle.registers.specs.File.{Write, _↢_, _with_}
 use Rattle.hart.specs.Hart.{reg, context}
-use Rattle.hart.specs.Event.{done, settled}
+use Rattle.hart.specs.Event.{no-value, done, settled}
 
 -- MRET: pc = mepc, privilege = MPP, V = MPV unless MPP=3 (then 0); mstatus
 abbrev pub writesMRET : Hart → List Write
@@ -43,7 +43,7 @@ abbrev pub returnedS : Hart → Hart
 returnedS h = pick (eqb (h .v) 1) (returnedVS h) (returnedHS h)
 
 unfoldable pub mret : Hart → Step
-mret h = settled h 0 (instructions.mret (context h)) (done (returnedM h))
+mret h = settled h 0 (instructions.mret (context h)) no-value (done (returnedM h))
 
 unfoldable pub sret : Hart → Step
-sret h = settled h 0 (instructions.sret (context h)) (done (returnedS h))
+sret h = settled h 0 (instructions.sret (context h)) no-value (done (returnedS h))

@@ -4,10 +4,10 @@ use Rattle.instructions.specs.Instructions as instructions
 use Rattle.hart.specs.declared.state.Hart.{Hart}
 use Rattle.hart.specs.declared.event.Step.{Step}
 use Rattle.hart.specs.Hart.{context}
-use Rattle.hart.specs.Event.{done, settled, moved}
+use Rattle.hart.specs.Event.{no-value, done, settled, moved}
 
 abbrev pub passing : Hart → Verdict → Step
-passing h verdict = settled h 0 verdict (done (moved h))
+passing h verdict = settled h 0 verdict no-value (done (moved h))
 
 unfoldable pub wfi : Hart → Step
 wfi h = passing h (instructions.wfi (context h))

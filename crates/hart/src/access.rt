@@ -1,18 +1,21 @@
 // Register access: read, write, set and clear.
 ghost use mathlib.Core.Path.{_≡_};
 ghost use Prim.Native.Nat.{_<_};
-ghost use Rattle.registers.specs.Registers.{at};
+ghost use lib.Bits.{bitAnd};
+ghost use Rattle.registers.specs.Places.{kept};
+ghost use Rattle.registers.specs.Registers.{count, at};
 ghost use Rattle.table.specs.Table.{rowOf};
-ghost use Rattle.hart.specs.Access.{seen, written, valueOf, answer, accessRow, unlisted, access, read, write, set, clear};
+ghost use Rattle.hart.specs.Hart.{reg};
+ghost use Rattle.hart.specs.Access.{written, valueOf, answer, accessRow, unlisted, access, read, write, set, clear};
+use crate::event;
 use crate::event::Outcome;
 use crate::event::Step;
 use crate::state::Hart;
 use csr::Form;
 use privilege::Verdict;
-use registers::masks;
-use registers::places;
 use table::Found;
 use table::Row;
+use table::kept::Kept;
 
 // The value answered is the old one where the access was done, and 0 where it trapped or was refused.
 pub struct Accessed {
@@ -45,24 +48,21 @@ fn answer(s: Step, old: u64) -> Accessed
 
 impl Hart {
     // What a read of a register shows.
-    fn seen(self, place: usize) -> u64
-        requires { ⌜ place < 29 ⌝ }
-        ensures { λ r. ⌜ r ≡ seen self place ⌝ }
+    fn seen(self, at: Kept) -> u64
+        requires { ⌜ at .home < kept ⌝ }
+        ensures { λ r. ⌜ r ≡ bitAnd (reg self (at .home)) (at .shows) ⌝ }
     {
-        if place == places::SSTATUS {
-            return self.regs[places::MSTATUS] & masks::SSTATUS;
-        }
-        self.regs[place]
+        let home = at.home;
+        self.regs[home] & at.shows
     }
 
-    // The registers with x written to one of them, where the access writes; pc moves on.
-    fn written(mut self, place: usize, mask: u64, x: u64, writes: bool) -> Hart
-        requires { ⌜ (place < 29) × (mask ≡ at place .rule .mask) ⌝ }
-        ensures { λ r. ⌜ r ≡ written self place x writes ⌝ }
+    // x written to the bits of a mask at a place, where the access writes; pc moves on.
+    fn written(mut self, home: usize, mask: u64, x: u64, writes: bool) -> Hart
+        requires { ⌜ home < kept ⌝ }
+        ensures { λ r. ⌜ r ≡ written self home mask x writes ⌝ }
     {
-        let kept = csr::home(place);
-        let old = self.regs[kept];
-        self.regs[kept] = csr::store(place, mask, old, x, writes);
+        let old = self.regs[home];
+        self.regs[home] = csr::store(home, mask, old, x, writes);
         self.moved()
     }
 
@@ -76,14 +76,14 @@ impl Hart {
         w: u64,
         writes: bool,
     ) -> Accessed
-        requires { ⌜ (place < 29) × (row ≡ rowOf (at place)) ⌝ }
+        requires { ⌜ (place < count) × (row ≡ rowOf (at place)) ⌝ }
         ensures { λ r. ⌜ r ≡ accessRow self own place row form w writes ⌝ }
     {
-        let verdict = csr::verdict(self.context(), place, row, writes);
-        let to = csr::reached(self.v, row.level, place);
+        let verdict = csr::verdict(self.context(), row, writes);
+        let to = table::kept::reach(place, self.v == 1);
         let old = self.seen(to);
-        let next = self.written(to, row.mask, csr::combine(form, old, w), writes);
-        answer(self.finish(own, verdict, next), old)
+        let next = self.written(to.home, row.mask, csr::combine(form, old, w), writes);
+        answer(self.finish(own, verdict, event::NO_VALUE, next), old)
     }
 
     // An access to a number that no register has.
@@ -94,7 +94,7 @@ impl Hart {
             gives2: true,
             gives22: false,
         };
-        answer(self.finish(own, verdict, self), 0)
+        answer(self.finish(own, verdict, event::NO_VALUE, self), 0)
     }
 
     // An access to the register with a number.

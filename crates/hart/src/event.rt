@@ -1,6 +1,6 @@
 // What an event comes to, and the order in which it is settled.
 ghost use mathlib.Core.Path.{_≡_};
-ghost use Rattle.hart.specs.Event.{done, trapped, cause-only, raised, settled, moved};
+ghost use Rattle.hart.specs.Event.{done, trapped, plain, raised, settled, moved};
 use crate::state::Hart;
 use exceptions::Exception;
 use privilege::Verdict;
@@ -17,13 +17,16 @@ pub struct Step {
     pub outcome: Outcome,
 }
 
-// A cause with value 0 and the flag clear.
-pub fn cause_only(cause: u64) -> Exception
-    ensures { λ r. ⌜ r ≡ cause-only cause ⌝ }
+// The value of causes 2 and 22 that the model raises.
+pub const NO_VALUE: u64 = 0;
+
+// A cause and its value, the flag clear.
+pub fn plain(cause: u64, value: u64) -> Exception
+    ensures { λ r. ⌜ r ≡ plain cause value ⌝ }
 {
     Exception {
         cause,
-        value: 0,
+        value,
         second: 0,
         word: 0,
         flag: false,
@@ -44,15 +47,15 @@ impl Hart {
     }
 
     // A cause that the model raises, 2 or 22.
-    fn raise(self, cause: u64) -> Step
-        ensures { λ r. ⌜ r ≡ raised self cause ⌝ }
+    fn raise(self, cause: u64, value: u64) -> Step
+        ensures { λ r. ⌜ r ≡ raised self cause value ⌝ }
     {
-        self.take_trap(cause_only(cause))
+        self.take_trap(plain(cause, value))
     }
 
-    // Refusal 2, then the call's own (0: none), then what the verdict gives, else the step that is done.
-    pub fn settle(self, own: u64, verdict: Verdict, finished: Step) -> Step
-        ensures { λ r. ⌜ r ≡ settled self own verdict finished ⌝ }
+    // Refusal 2, then the call's own (0: none), then the cause that the verdict gives, with its value, else the step that is done.
+    pub fn settle(self, own: u64, verdict: Verdict, value: u64, finished: Step) -> Step
+        ensures { λ r. ⌜ r ≡ settled self own verdict value finished ⌝ }
     {
         if !self.passes() {
             return Step {
@@ -67,21 +70,22 @@ impl Hart {
             };
         }
         if verdict.gives2 {
-            return self.raise(2);
+            return self.raise(2, value);
         }
         if verdict.gives22 {
-            return self.raise(22);
+            return self.raise(22, value);
         }
         finished
     }
 
     // The same, where the step that is done leaves the hart next.
-    pub fn finish(self, own: u64, verdict: Verdict, next: Hart) -> Step
-        ensures { λ r. ⌜ r ≡ settled self own verdict (done next) ⌝ }
+    pub fn finish(self, own: u64, verdict: Verdict, value: u64, next: Hart) -> Step
+        ensures { λ r. ⌜ r ≡ settled self own verdict value (done next) ⌝ }
     {
         self.settle(
             own,
             verdict,
+            value,
             Step {
                 hart: next,
                 outcome: Outcome::Done,

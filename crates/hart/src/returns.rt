@@ -1,6 +1,7 @@
 // MRET and SRET.
 ghost use mathlib.Core.Path.{_≡_};
 ghost use Rattle.hart.specs.Return.{returnedM, returnedHS, returnedVS, returnedS, mret, sret};
+use crate::event;
 use crate::event::Step;
 use crate::state::Hart;
 use registers::fields::MPP;
@@ -57,13 +58,13 @@ impl Hart {
         ensures { λ r. ⌜ r ≡ mret self ⌝ }
     {
         let verdict = instructions::mret(self.context());
-        self.finish(0, verdict, self.return_m())
+        self.finish(0, verdict, event::NO_VALUE, self.return_m())
     }
 
     pub fn sret(self) -> Step
         ensures { λ r. ⌜ r ≡ sret self ⌝ }
     {
         let verdict = instructions::sret(self.context());
-        self.finish(0, verdict, self.return_s())
+        self.finish(0, verdict, event::NO_VALUE, self.return_s())
     }
 }

@@ -5,16 +5,16 @@ use privilege::Context;
 use registers::file;
 use registers::places;
 
-// V, the privilege (0 U, 1 S, 3 M), pc, and each register at its place in the table.
+// V, the privilege (0 U, 1 S, 3 M), pc, and each register that is kept at its place.
 pub struct Hart {
     pub v: u64,
     pub privilege: u64,
     pub pc: u64,
-    pub regs: [u64; 29],
+    pub regs: [u64; places::KEPT],
 }
 
 impl Hart {
-    // Every register holds what a write of 0 leaves.
+    // No stored bit of a register is set.
     pub fn reset(v: u64, privilege: u64, pc: u64) -> Hart
         ensures { λ r. ⌜ r ≡ reset v privilege pc ⌝ }
     {

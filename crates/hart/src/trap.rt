@@ -18,6 +18,7 @@ impl Hart {
                 gives2: false,
                 gives22: false,
             },
+            event::NO_VALUE,
             self.take_trap(t),
         )
     }
@@ -35,7 +36,7 @@ impl Hart {
         ensures { λ r. ⌜ r ≡ ecall self ⌝ }
     {
         let cause = delivery::call_cause(self.context());
-        self.trapping(0, event::cause_only(cause))
+        self.trapping(0, event::plain(cause, 0))
     }
 
     // EBREAK.

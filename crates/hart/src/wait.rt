@@ -1,6 +1,7 @@
 // WFI and the fences: those that don't trap only move pc.
 ghost use mathlib.Core.Path.{_≡_};
 ghost use Rattle.hart.specs.Wait.{passing, wfi, sfenceVma, hfenceVvma, hfenceGvma};
+use crate::event;
 use crate::event::Step;
 use crate::state::Hart;
 use privilege::Verdict;
@@ -9,7 +10,7 @@ impl Hart {
     fn passing(self, verdict: Verdict) -> Step
         ensures { λ r. ⌜ r ≡ passing self verdict ⌝ }
     {
-        self.finish(0, verdict, self.moved())
+        self.finish(0, verdict, event::NO_VALUE, self.moved())
     }
 
     pub fn wfi(self) -> Step

@@ -5,7 +5,7 @@ use Rattle.bits.specs.declared.Field.{Field}
 use Rattle.registers.specs.Fields.{TVM, TW, TSR, VTVM, VTW, VTSR}
 use Rattle.privilege.specs.declared.Context.{Context}
 use Rattle.privilege.specs.declared.Verdict.{Verdict}
-use Rattle.privilege.specs.Mode.{isU, isHS, isM, isVU, isVS, isSet, verdict}
+use Rattle.privilege.specs.Mode.{isU, isHS, isM, isVU, isVS, isSet, gives}
 
 -- "U 2; HS with TVM=1 2", and with TSR=1: a control of mstatus
 abbrev pub illegalWith : Field → Context → Bool
@@ -17,24 +17,24 @@ virtualWith control c = isVU c || isVS c && isSet control (c .hstatus)
 
 -- MRET, M only, else 2
 abbrev pub mret : Context → Verdict
-mret c = verdict (not (isM c)) false
+mret c = gives (not (isM c)) false
 
 -- SRET with V=0: U gives 2, HS with TSR=1 gives 2; SRET in VU, or in VS with VTSR=1: 22
 abbrev pub sret : Context → Verdict
-sret c = verdict (illegalWith TSR c) (virtualWith VTSR c)
+sret c = gives (illegalWith TSR c) (virtualWith VTSR c)
 
 -- WFI: M goes on; TW=1 elsewhere gives 2; then U gives 2, VU gives 22, VS gives 22 if VTW=1
 abbrev pub wfi : Context → Verdict
-wfi c = verdict (not (isM c) && (isSet TW (c .mstatus) || isU c)) (virtualWith VTW c)
+wfi c = gives (not (isM c) && (isSet TW (c .mstatus) || isU c)) (virtualWith VTW c)
 
 -- SFENCE.VMA: U 2; HS with TVM=1 2; VU 22; VS with VTVM=1 22
 abbrev pub sfenceVma : Context → Verdict
-sfenceVma c = verdict (illegalWith TVM c) (virtualWith VTVM c)
+sfenceVma c = gives (illegalWith TVM c) (virtualWith VTVM c)
 
 -- HFENCE.VVMA: U 2; V=1 always 22
 abbrev pub hfenceVvma : Context → Verdict
-hfenceVvma c = verdict (isU c) (eqb (c .v) 1)
+hfenceVvma c = gives (isU c) (eqb (c .v) 1)
 
 -- HFENCE.GVMA: U 2; in HS with TVM=1 2; V=1 always 22
 abbrev pub hfenceGvma : Context → Verdict
-hfenceGvma c = verdict (illegalWith TVM c) (eqb (c .v) 1)
+hfenceGvma c = gives (illegalWith TVM c) (eqb (c .v) 1)

@@ -36,5 +36,5 @@ abbrev pub strayMPRV : Context → Bool
 strayMPRV c = isSet MPRV (c .mstatus) && not (isM c)
 
 -- an instruction gives 2 where the first holds, else 22 where the second does
-abbrev pub verdict : Bool → Bool → Verdict
-verdict a b = record { gives2 = a; gives22 = b }
+abbrev pub gives : Bool → Bool → Verdict
+gives a b = record { gives2 = a; gives22 = b }

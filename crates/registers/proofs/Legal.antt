@@ -1,11 +1,11 @@
--- A value is legal exactly if some write to a register that holds a legal one stores it; and what keeps a register legal. Assumes nothing.
+-- What keeps a register legal; and a value is legal exactly if some write to the register, as it is after reset, stores it. Assumes nothing.
 use mathlib.Core.Path.{_≡_, refl, sym, ap, ap₂, subst, _∙_}
 use mathlib.Core.Bool.{Bool, true, _&&_, _||_}
 use mathlib.Core.List.{List, [], _∷_}
 use mathlib.Core.Logic.{_↔_, ⊎-elim}
 use Prim.Native.Nat.{ℕ, _%_, _^_, _-_, _<_}
 use native.Mathlib.Nat.{mod-eq-of-lt}
-use lib.Bits.{bitAnd, bitOr, and-zero-r, or-zero-r, and-self, and-comm, and-mask}
+use lib.Bits.{bitAnd, bitOr, and-zero-r, or-zero-r, and-comm, and-mask}
 use lib.Dec.{eqb}
 use borrow.Author.Tests.{eqb-true, eq-eqb}
 use Rattle.bits.specs.declared.Field.{Field}
@@ -13,68 +13,72 @@ use Rattle.bits.specs.Field.{pick, top, get, put, copy}
 use Rattle.bits.specs.Assign.{Assignment, _after_}
 use Rattle.bits.proofs.Bools.{and-left, and-right, both, split, or-cases, pick-both}
 use Rattle.bits.proofs.Masks.{and-or, and-assoc}
-use Rattle.bits.proofs.Fields.{get-lt, get-and, get-or, get-all, get-put}
+use Rattle.bits.proofs.Fields.{get-lt, get-put}
 use Rattle.bits.proofs.Tests.{fits, fits-test, apart, outside, put-outside, other}
-use Rattle.registers.specs.Rules.{Restriction, free, only, Rule, among, allowed, taken, stored, legal}
+use Rattle.registers.specs.Rules.{Restriction, free, keeps, ignores, Rule, among, allowed, taken, legal}
 
 -- ---- a rule that makes sense
 
--- the field is stored whole
-unfoldable pub storedWhole : Field → ℕ → Bool
-storedWhole f m = fits f && (eqb (get f m) (2 ^ (f .width) - 1) && eqb (get f (top - m)) 0)
+-- a restricted field is stored: it has none of the other bits
+abbrev pub restrictsStored : Restriction → (others : ℕ) → Bool
+restrictsStored free k = true
+restrictsStored (keeps f vs) k = outside f k
+restrictsStored (ignores f vs) k = outside f k
 
-abbrev pub restrictsStored : Restriction → ℕ → Bool
-restrictsStored free m = true
-restrictsStored (only f vs i) m = storedWhole f m
-
--- the stored bits and the others part the 64; a restricted field is stored; with all stored bits clear the register is legal
+-- the stored bits and the others make up the 64; a restricted field is stored; with all stored bits clear the register is legal
 unfoldable pub sound : Rule → Bool
 sound r =
-    eqb (bitAnd (r .mask) (top - r .mask)) 0 && (eqb (bitOr (top - r .mask) (r .mask)) top
-    && (eqb (bitAnd (r .fixed) (top - r .mask)) (r .fixed) && (allowed (r .restriction) (r .fixed) && restrictsStored (r .restriction) (r .mask))))
+    eqb (bitOr (top - r .mask) (r .mask)) top
+    && (eqb (bitAnd (r .fixed) (top - r .mask)) (r .fixed) && (allowed (r .restriction) (r .fixed) && restrictsStored (r .restriction) (top - r .mask)))
 
 record Sound (r : Rule) : Type 0 where
-  part : bitAnd (r .mask) (top - r .mask) ≡ 0
   all : bitOr (top - r .mask) (r .mask) ≡ top
   rest : bitAnd (r .fixed) (top - r .mask) ≡ r .fixed
   start : allowed (r .restriction) (r .fixed) ≡ true
-  field : restrictsStored (r .restriction) (r .mask) ≡ true
+  field : restrictsStored (r .restriction) (top - r .mask) ≡ true
 
 sound-test : (r : Rule) → sound r ≡ true → Sound r
 unfolding sound
 sound-test r t =
-    split (eqb (bitAnd (r .mask) (top - r .mask)) 0) _ t (λ a t₁. split (eqb (bitOr (top - r .mask) (r .mask)) top) _ t₁
-    (λ b t₂. split (eqb (bitAnd (r .fixed) (top - r .mask)) (r .fixed)) _ t₂ (λ c t₃. split (allowed (r .restriction) (r .fixed)) _ t₃
-    (λ d e. record { part = eqb-true _ _ a; all = eqb-true _ _ b; rest = eqb-true _ _ c; start = d; field = e }))))
+    split (eqb (bitOr (top - r .mask) (r .mask)) top) _ t (λ a t₁. split (eqb (bitAnd (r .fixed) (top - r .mask)) (r .fixed)) _ t₁
+    (λ b t₂. split (allowed (r .restriction) (r .fixed)) _ t₂ (λ c d. record { all = eqb-true _ _ a; rest = eqb-true _ _ b; start = c; field = d })))
 
--- ---- the restriction sees only its field
+-- ---- what goes into a register
 
-same-allowed : (f : Field) (vs : List ℕ) (i : Bool) (x y : ℕ) → get f x ≡ get f y → allowed (only f vs i) x ≡ allowed (only f vs i) y
-same-allowed f vs i x y e = ap (λ (n : ℕ). among n vs) e
+-- what holds of the old word, of the new one, and of the new one with a field kept holds of what is taken
+pub taken-has : (P : ℕ → Type 0) (q : Restriction) (old x : ℕ) → P old → P x → ((f : Field) (vs : List ℕ) → q ≡ keeps f vs → P (put f (get f old) x)) → P (taken q old x)
+taken-has P free old x o n k = n
+taken-has P (keeps f vs) old x o n k = pick-both P (among (get f x) vs) x (put f (get f old) x) (λ e. n) (λ e. k f vs refl)
+taken-has P (ignores f vs) old x o n k = pick-both P (among (get f x) vs) x old (λ e. n) (λ e. o)
 
-copy-allowed : (q : Restriction) (m w old : ℕ) → restrictsStored q m ≡ true → allowed q (copy m w old) ≡ allowed q w
-unfolding storedWhole
-copy-allowed free m w old s = refl
-copy-allowed (only f vs i) m w old s =
-    split (fits f) _ s (λ h s₁. split (eqb (get f m) (2 ^ (f .width) - 1)) _ s₁ (λ a b.
-    same-allowed f vs i (copy m w old) w
-    (get-or f (bitAnd old (top - m)) (bitAnd w m)
-    ∙ ap₂ bitOr (get-and f old (top - m) ∙ ap (bitAnd (get f old)) (eqb-true _ _ b) ∙ and-zero-r (get f old))
-    (get-and f w m ∙ ap (bitAnd (get f w)) (eqb-true _ _ a) ∙ get-all f w))))
+outside-fits : (f : Field) (k : ℕ) → outside f k ≡ true → fits f ≡ true
+unfolding outside
+outside-fits f k = and-left (fits f) _
 
 -- what goes into a register that holds an allowed value is allowed
-taken-allowed : (q : Restriction) (m old w : ℕ) → restrictsStored q m ≡ true → allowed q old ≡ true → allowed q (taken q old w) ≡ true
-unfolding storedWhole
-taken-allowed free m old w s h = refl
-taken-allowed (only f vs i) m old w s h =
-    pick-both (λ (x : ℕ). allowed (only f vs i) x ≡ true) (among (get f w) vs) w (pick i old (put f (get f old) w)) (λ e. e)
-    (λ e. pick-both (λ (x : ℕ). allowed (only f vs i) x ≡ true) i old (put f (get f old) w) (λ j. h)
-    (λ j. same-allowed f vs i (put f (get f old) w) old
-    (get-put f (fits-test f (and-left (fits f) _ s)) (get f old) w ∙ mod-eq-of-lt (get-lt f old)) ∙ h))
+taken-allowed : (q : Restriction) (k old x : ℕ) → restrictsStored q k ≡ true → allowed q old ≡ true → allowed q (taken q old x) ≡ true
+taken-allowed free k old x s h = refl
+taken-allowed (keeps f vs) k old x s h =
+    pick-both (λ (y : ℕ). among (get f y) vs ≡ true) (among (get f x) vs) x (put f (get f old) x) (λ e. e)
+    (λ e. ap (λ (n : ℕ). among n vs) (get-put f (fits-test f (outside-fits f k s)) (get f old) x ∙ mod-eq-of-lt (get-lt f old)) ∙ h)
+taken-allowed (ignores f vs) k old x s h = pick-both (λ (y : ℕ). among (get f y) vs ≡ true) (among (get f x) vs) x old (λ e. e) (λ e. h)
 
-allowed-taken : (q : Restriction) (old w : ℕ) → allowed q w ≡ true → taken q old w ≡ w
-allowed-taken free old w h = refl
-allowed-taken (only f vs i) old w h = rw h
+allowed-taken : (q : Restriction) (old x : ℕ) → allowed q x ≡ true → taken q old x ≡ x
+allowed-taken free old x h = refl
+allowed-taken (keeps f vs) old x h = rw h
+allowed-taken (ignores f vs) old x h = rw h
+
+-- the mask m has none of the bits of k
+unfoldable pub spares : (m k : ℕ) → Bool
+spares m k = eqb (bitAnd (top - m) k) k && eqb (bitAnd m k) 0
+
+copy-spares : (m k w old : ℕ) → spares m k ≡ true → bitAnd (copy m w old) k ≡ bitAnd old k
+unfolding spares
+copy-spares m k w old t =
+    split (eqb (bitAnd (top - m) k) k) (eqb (bitAnd m k) 0) t (λ a b.
+    and-or (bitAnd old (top - m)) (bitAnd w m) k
+    ∙ ap₂ bitOr (and-assoc old (top - m) k ∙ ap (bitAnd old) (eqb-true _ _ a)) (and-assoc w m k ∙ ap (bitAnd w) (eqb-true _ _ b) ∙ and-zero-r w)
+    ∙ or-zero-r (bitAnd old k))
 
 -- ---- exactly what writes store
 
@@ -94,34 +98,28 @@ module _ (r : Rule) (t : sound r ≡ true) where
   unfolding legal
   make-legal x a e = both (allowed (r .restriction) x) (eqb (bitAnd x (top - r .mask)) (r .fixed)) a (eq-eqb _ _ e)
 
-  -- a copy: the stored bits are new, the others old
-  copy-rest : (w old : ℕ) → bitAnd (copy (r .mask) w old) (top - r .mask) ≡ bitAnd old (top - r .mask)
-  copy-rest w old =
-      and-or (bitAnd old (top - r .mask)) (bitAnd w (r .mask)) (top - r .mask)
-      ∙ ap₂ bitOr (and-assoc old (top - r .mask) (top - r .mask) ∙ ap (bitAnd old) (and-self (top - r .mask))) (and-assoc w (r .mask) (top - r .mask) ∙ ap (bitAnd w) (s .part) ∙ and-zero-r w)
-      ∙ or-zero-r (bitAnd old (top - r .mask))
-
-  -- a write to a register that holds what it can leaves one that does
-  pub stored-legal : (old w : ℕ) → legal r old ≡ true → legal r (stored r old w) ≡ true
-  unfolding stored
-  stored-legal old w h =
-      make-legal (copy (r .mask) (taken (r .restriction) old w) old)
-      (copy-allowed (r .restriction) (r .mask) (taken (r .restriction) old w) old (s .field) ∙ taken-allowed (r .restriction) (r .mask) old w (s .field) (legal-allowed old h))
-      (copy-rest (taken (r .restriction) old w) old ∙ legal-rest old h)
+  -- some stored bits written to a register that holds what it can leave one that does
+  pub taken-legal : (m old w : ℕ) → spares m (top - r .mask) ≡ true → legal r old ≡ true → legal r (taken (r .restriction) old (copy m w old)) ≡ true
+  taken-legal m old w p h =
+      let x = copy m w old in
+      let o : bitAnd old (top - r .mask) ≡ r .fixed = legal-rest old h in
+      let n : bitAnd x (top - r .mask) ≡ r .fixed = copy-spares m (top - r .mask) w old p ∙ o in
+      make-legal (taken (r .restriction) old x) (taken-allowed (r .restriction) (top - r .mask) old x (s .field) (legal-allowed old h))
+      (taken-has (λ (y : ℕ). bitAnd y (top - r .mask) ≡ r .fixed) (r .restriction) old x o n
+      (λ f vs e. put-outside f (top - r .mask) (subst (λ (q : Restriction). restrictsStored q (top - r .mask) ≡ true) e (s .field)) (get f old) x ∙ n))
 
   -- written over the register with all stored bits clear, what is legal is stored as it is
-  pub legal-stored : (x : ℕ) → x < 2 ^ 64 → legal r x ≡ true → stored r (r .fixed) x ≡ x
-  unfolding stored
-  legal-stored x b h =
-      rw (allowed-taken (r .restriction) (r .fixed) x (legal-allowed x h))
+  pub legal-taken : (x : ℕ) → x < 2 ^ 64 → legal r x ≡ true → taken (r .restriction) (r .fixed) (copy (r .mask) x (r .fixed)) ≡ x
+  legal-taken x b h =
+      ap (taken (r .restriction) (r .fixed))
       (ap (λ (y : ℕ). bitOr y (bitAnd x (r .mask))) (s .rest ∙ sym (legal-rest x h))
       ∙ ap₂ bitOr (and-comm x (top - r .mask)) (and-comm x (r .mask)) ∙ sym (and-or (top - r .mask) (r .mask) x)
       ∙ ap (λ (y : ℕ). bitAnd y x) (s .all) ∙ and-comm top x ∙ and-mask x 64 ∙ mod-eq-of-lt b)
+      ∙ allowed-taken (r .restriction) (r .fixed) x (legal-allowed x h)
 
-  -- a value is legal exactly if some write to a register that holds a legal one stores it
-  pub legal-exactly : (x : ℕ) → x < 2 ^ 64 → (legal r x ≡ true) ↔ ((old : ℕ) × (w : ℕ) × (legal r old ≡ true) × (stored r old w ≡ x))
-  legal-exactly x b =
-      ((λ h. (r .fixed, x, make-legal (r .fixed) (s .start) (s .rest), legal-stored x b h)), (λ e. subst (λ (y : ℕ). legal r y ≡ true) (e .3) (stored-legal (e .0) (e .1) (e .2))))
+  -- with all stored bits clear the register is legal
+  pub fixed-legal : legal r (r .fixed) ≡ true
+  fixed-legal = make-legal (r .fixed) (s .start) (s .rest)
 
 -- ---- assignments to fields keep a register legal
 
@@ -134,11 +132,15 @@ unfolding same
 same-is f g t =
     split (eqb (f .low) (g .low)) _ t (λ a b. ap₂ (λ (l w : ℕ). record { low = l; width = w }) (eqb-true _ _ a) (eqb-true _ _ b))
 
--- the restriction takes the assignment: to another field, or of a value that the field takes
+-- the assignment is to another field than f, or of one of the values
+abbrev pub suits : Field → List ℕ → Assignment → Bool
+suits f vs a = apart (a .field) f || (same (a .field) f && among (a .value % 2 ^ (f .width)) vs)
+
 unfoldable pub takes : Restriction → Assignment → Bool
 unfolding same
 takes free a = true
-takes (only f vs i) a = apart (a .field) f || (same (a .field) f && among (a .value % 2 ^ (f .width)) vs)
+takes (keeps f vs) a = suits f vs a
+takes (ignores f vs) a = suits f vs a
 
 -- the assignments are to stored fields, of values that they take
 unfoldable pub fine : Rule → List Assignment → Bool
@@ -146,15 +148,19 @@ unfolding takes same
 fine r [] = true
 fine r (a ∷ more) = (outside (a .field) (top - r .mask) && takes (r .restriction) a) && fine r more
 
-put-allowed : (q : Restriction) (m : ℕ) (a : Assignment) (x : ℕ) → restrictsStored q m ≡ true → takes q a ≡ true → allowed q x ≡ true → allowed q (put (a .field) (a .value) x) ≡ true
-unfolding takes storedWhole
-put-allowed free m a x s t h = refl
-put-allowed (only f vs i) m a x s t h =
-    ⊎-elim (λ p. same-allowed f vs i (put (a .field) (a .value) x) x (other (a .field) f p (a .value) x) ∙ h)
+put-suits : (f : Field) (vs : List ℕ) (k : ℕ) (a : Assignment) (x : ℕ) → outside f k ≡ true → suits f vs a ≡ true → among (get f x) vs ≡ true → among (get f (put (a .field) (a .value) x)) vs ≡ true
+put-suits f vs k a x s t h =
+    ⊎-elim (λ p. ap (λ (n : ℕ). among n vs) (other (a .field) f p (a .value) x) ∙ h)
     (λ p. split (same (a .field) f) (among (a .value % 2 ^ (f .width)) vs) p (λ e m.
     ap (λ (n : ℕ). among n vs)
-    (ap (λ (g : Field). get f (put g (a .value) x)) (same-is (a .field) f e) ∙ get-put f (fits-test f (and-left (fits f) _ s)) (a .value) x) ∙ m))
+    (ap (λ (g : Field). get f (put g (a .value) x)) (same-is (a .field) f e) ∙ get-put f (fits-test f (outside-fits f k s)) (a .value) x) ∙ m))
     (or-cases (apart (a .field) f) (same (a .field) f && among (a .value % 2 ^ (f .width)) vs) t)
+
+put-allowed : (q : Restriction) (k : ℕ) (a : Assignment) (x : ℕ) → restrictsStored q k ≡ true → takes q a ≡ true → allowed q x ≡ true → allowed q (put (a .field) (a .value) x) ≡ true
+unfolding takes
+put-allowed free k a x s t h = refl
+put-allowed (keeps f vs) k a x s t h = put-suits f vs k a x s t h
+put-allowed (ignores f vs) k a x s t h = put-suits f vs k a x s t h
 
 -- what is legal stays so
 pub after-legal : (r : Rule) → sound r ≡ true → (changes : List Assignment) (x : ℕ) → fine r changes ≡ true → legal r x ≡ true → legal r (x after changes) ≡ true
@@ -165,5 +171,5 @@ after-legal r t (a ∷ more) x f h =
     split (outside (a .field) (top - r .mask)) (takes (r .restriction) a) g (λ o k.
     let y : legal r (x after more) ≡ true = after-legal r t more x rest h in
     make-legal r t (put (a .field) (a .value) (x after more))
-    (put-allowed (r .restriction) (r .mask) a (x after more) (sound-test r t .field) k (legal-allowed r t (x after more) y))
+    (put-allowed (r .restriction) (top - r .mask) a (x after more) (sound-test r t .field) k (legal-allowed r t (x after more) y))
     (put-outside (a .field) (top - r .mask) o (a .value) (x after more) ∙ legal-rest r t (x after more) y)))

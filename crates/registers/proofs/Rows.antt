@@ -1,60 +1,128 @@
--- The rule of every register: one computed test, and what it says of each register. Assumes nothing.
-use mathlib.Core.Path.{_≡_, refl}
-use mathlib.Core.Bool.{Bool, true}
-use mathlib.Core.List.{[], _∷_}
+-- The rule of every place and the view of every register: computed tests, and what they say of each. Assumes nothing.
+use mathlib.Core.Path.{_≡_, refl, subst}
+use mathlib.Core.Bool.{Bool, true, false, _&&_}
+use mathlib.Core.List.{List, [], _∷_}
 use mathlib.Core.Logic.{_↔_}
-use Prim.Native.Nat.{ℕ, suc, _+_, _^_, _<_}
+use Prim.Native.Nat.{ℕ, suc, _+_, _-_, _^_, _<_}
 use lib.Dec.{eqb, ltb}
-use Rattle.bits.specs.Field.{pick, get, put}
+use lib.ListN.{getD, take, length, List·getD-map}
+use borrow.Author.Tests.{eqb-true, ltb-true}
+use Rattle.bits.specs.Field.{pick, top, get, put}
 use Rattle.bits.specs.Every.{every}
+use Rattle.bits.proofs.Bools.{and-left, and-right, pick-both}
 use Rattle.bits.proofs.Every.{every-any}
-use Rattle.bits.proofs.Tests.{fits}
-use Rattle.registers.specs.Places.{sstatus, stvec, sscratch, sepc, scause, stval, satp, vsstatus, vstvec, vsscratch, vsepc, vscause, vstval, vsatp, mstatus, medeleg, mtvec, mscratch, mepc, mcause, mtval, mtinst, mtval2, hstatus, hedeleg, htval, htinst, hgatp, hgeip}
-use Rattle.registers.specs.Rules.{stored, legal, stores-nothing}
-use Rattle.registers.specs.Registers.{Register, register, registers, at}
-use Rattle.registers.specs.File.{initial, registersPass}
-use Rattle.registers.proofs.Legal.{sound, storedWhole, legal-exactly}
+use Rattle.bits.proofs.Tests.{fits, outside}
+use Rattle.registers.specs.Places.{kept, stvec, sscratch, sepc, scause, stval, satp, vsstatus, vstvec, vsscratch, vsepc, vscause, vstval, vsatp, mstatus, medeleg, mtvec, mscratch, mepc, mcause, mtval, mtinst, mtval2, hstatus, hedeleg, htval, htinst, hgatp}
+use Rattle.registers.specs.Rules.{Rule, legal, stores-word, rules, rule, stored}
+use Rattle.registers.specs.Registers.{count, supervisor, View, whole, no-bits, Register, register, registers, at}
+use Rattle.registers.specs.File.{initial, holds, registersPass}
+use Rattle.registers.proofs.Legal.{sound, spares, taken-legal, legal-taken, fixed-legal}
 
-abbrev test : ℕ → Register → Bool
-test i r = sound (r .rule)
+-- ---- the rule of a place
 
-all-sound : every test 0 registers ≡ true
-unfolding every sound storedWhole fits get put
-all-sound = refl
+abbrev sane : ℕ → Rule → Bool
+sane i r = sound r && spares (r .mask) (top - r .mask)
 
-other-sound : (i : ℕ) → test i (register 0 0 stores-nothing) ≡ true
-unfolding sound
-other-sound i = refl
+all-sane : every sane 0 rules ≡ true
+unfolding every sound outside fits spares get put
+all-sane = refl
 
-pub row-sound : (i : ℕ) → sound (at i .rule) ≡ true
-row-sound = every-any test registers (register 0 0 stores-nothing) all-sound other-sound
+other-sane : (i : ℕ) → sane i stores-word ≡ true
+unfolding sound spares
+other-sane i = refl
 
--- of each register: a value passes exactly if some write to a register that passes stores it
-pub row-legal-exactly : (i x : ℕ) → x < 2 ^ 64 → (legal (at i .rule) x ≡ true) ↔ ((old : ℕ) × (w : ℕ) × (legal (at i .rule) old ≡ true) × (stored (at i .rule) old w ≡ x))
-row-legal-exactly i = legal-exactly (at i .rule) (row-sound i)
+rule-sane : (p : ℕ) → sane p (rule p) ≡ true
+rule-sane = every-any sane rules stores-word all-sane other-sane
+
+pub rule-sound : (p : ℕ) → sound (rule p) ≡ true
+rule-sound p = and-left (sound (rule p)) _ (rule-sane p)
+
+-- some stored bits written to a register that holds what it can leave one that does
+pub stored-legal : (p mask old w : ℕ) → spares mask (top - rule p .mask) ≡ true → legal (rule p) old ≡ true → legal (rule p) (stored p mask old w) ≡ true
+unfolding stored
+stored-legal p = taken-legal (rule p) (rule-sound p)
+
+after-reset : (p : ℕ) → getD initial p 0 ≡ rule p .fixed
+after-reset p = List·getD-map (λ (r : Rule). r .fixed) rules p stores-word
+
+-- Of each place: a value passes check 2 exactly if some write to the register, as it is after reset, stores it.
+pub holds-exactly : (p x : ℕ) → x < 2 ^ 64 → (holds p x ≡ true) ↔ ((w : ℕ) × (stored p (rule p .mask) (getD initial p 0) w ≡ x))
+unfolding stored
+holds-exactly p x b =
+    rw (after-reset p) (
+      (λ h. (x, legal-taken (rule p) (rule-sound p) x b h)),
+      (λ e. subst (λ (y : ℕ). legal (rule p) y ≡ true) (e .1)
+          (taken-legal (rule p) (rule-sound p) (rule p .mask) (rule p .fixed) (e .0) (and-right (sound (rule p)) _ (rule-sane p)) (fixed-legal (rule p) (rule-sound p)))),
+    )
+
+-- ---- the view of a register, and its twin's
+
+-- its home is one of the places, and it writes only bits that are stored there
+abbrev pub soundView : View → Bool
+soundView v = ltb (v .home) kept && spares (v .writes) (top - rule (v .home) .mask)
+
+abbrev tidy : ℕ → Register → Bool
+tidy i r = (soundView (r .view) && soundView (r .twin)) && eqb (r .twin .writes) (r .view .writes)
+
+tested : every tidy 0 registers ≡ true
+unfolding every spares
+tested = refl
+
+row-tidy : (i : ℕ) → tidy i (at i) ≡ true
+unfolding spares
+row-tidy = every-any tidy registers (register 0 0 no-bits) tested (λ k. refl)
+
+-- an access reaches a sound view
+pub reaches-sound : (i : ℕ) (guest : Bool) → soundView (pick guest (at i .twin) (at i .view)) ≡ true
+reaches-sound i guest =
+    let t = and-left (soundView (at i .view) && soundView (at i .twin)) _ (row-tidy i) in
+    pick-both (λ (v : View). soundView v ≡ true) guest (at i .twin) (at i .view) (λ e. and-right (soundView (at i .view)) _ t) (λ e. and-left (soundView (at i .view)) _ t)
+
+pub reaches-home : (i : ℕ) (guest : Bool) → pick guest (at i .twin) (at i .view) .home < kept
+reaches-home i guest = ltb-true _ _ (and-left (ltb (pick guest (at i .twin) (at i .view) .home) kept) _ (reaches-sound i guest))
+
+-- and writes the bits that its row names
+pub reaches-writes : (i : ℕ) (guest : Bool) → pick guest (at i .twin) (at i .view) .writes ≡ at i .view .writes
+reaches-writes i guest =
+    pick-both (λ (v : View). v .writes ≡ at i .view .writes) guest (at i .twin) (at i .view)
+    (λ e. eqb-true _ _ (and-right (soundView (at i .view) && soundView (at i .twin)) _ (row-tidy i))) (λ e. refl)
+
+-- ---- the table against document 01
+
+pub counted : (length registers ≡ count) × (length rules ≡ kept)
+counted = (refl, refl)
 
 -- the rows stand in rising order of number
-pub rising : every (λ i (r : Register). ltb (r .number) (at (suc i) .number)) 0 (lib.ListN.take 28 registers) ≡ true
+pub rising : every (λ i (r : Register). ltb (r .number) (at (suc i) .number)) 0 (take (count - 1) registers) ≡ true
 unfolding every
 rising = refl
 
--- the VS registers are the same seven, seven rows further and 100 hex up
-pub same-seven : every (λ i (r : Register). eqb (at (i + 7) .number) (r .number + 0x100)) 0 (lib.ListN.take 7 registers) ≡ true
+abbrev sameView : View → View → Bool
+sameView v w = eqb (v .home) (w .home) && (eqb (v .shows) (w .shows) && eqb (v .writes) (w .writes))
+
+abbrev bears : ℕ → List Register → View → Bool
+bears n [] v = false
+bears n (r ∷ rs) v = pick (eqb (r .number) n) (sameView (r .view) v) (bears n rs v)
+
+-- an S number's twin is the VS register that is 100 hex up; every other number reaches its own register
+pub twins : every (λ i (r : Register). bears (pick (eqb (r .level) supervisor) (r .number + 0x100) (r .number)) registers (r .twin)) 0 registers ≡ true
 unfolding every
-same-seven = refl
+twins = refl
 
 -- each place's name has the number that document 01 gives the register: S, VS, H, M
-pub numbered : every (λ i (r : ℕ × ℕ). eqb (at (r .0) .number) (r .1)) 0 (
-    (sstatus, 0x100) ∷ (stvec, 0x105) ∷ (sscratch, 0x140) ∷ (sepc, 0x141) ∷ (scause, 0x142) ∷ (stval, 0x143) ∷ (satp, 0x180) ∷
+pub numbered : every (λ i (r : ℕ × ℕ). bears (r .1) registers (whole (r .0))) 0 (
+    (stvec, 0x105) ∷ (sscratch, 0x140) ∷ (sepc, 0x141) ∷ (scause, 0x142) ∷ (stval, 0x143) ∷ (satp, 0x180) ∷
     (vsstatus, 0x200) ∷ (vstvec, 0x205) ∷ (vsscratch, 0x240) ∷ (vsepc, 0x241) ∷ (vscause, 0x242) ∷ (vstval, 0x243) ∷ (vsatp, 0x280) ∷
-    (hstatus, 0x600) ∷ (hedeleg, 0x602) ∷ (htval, 0x643) ∷ (htinst, 0x64A) ∷ (hgatp, 0x680) ∷ (hgeip, 0xE12) ∷
+    (hstatus, 0x600) ∷ (hedeleg, 0x602) ∷ (htval, 0x643) ∷ (htinst, 0x64A) ∷ (hgatp, 0x680) ∷
     (mstatus, 0x300) ∷ (medeleg, 0x302) ∷ (mtvec, 0x305) ∷ (mscratch, 0x340) ∷ (mepc, 0x341) ∷ (mcause, 0x342) ∷ (mtval, 0x343) ∷ (mtinst, 0x34A) ∷ (mtval2, 0x34B) ∷ []
     ) ≡ true
 unfolding every
 numbered = refl
 
--- a reset hart's registers hold what a write of 0 leaves, over what reads fixed; nothing is kept at sstatus's place
-pub initial-stored : every (λ i x. eqb x (pick (eqb i sstatus) 0 (stored (at i .rule) (at i .rule .fixed) 0))) 0 initial ≡ true
+-- ---- a reset hart's registers
+
+-- each holds what a write of 0 leaves
+pub initial-stored : every (λ p x. eqb x (stored p (rule p .mask) x 0)) 0 initial ≡ true
 unfolding every stored get put
 initial-stored = refl
 

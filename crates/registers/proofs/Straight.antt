@@ -1,26 +1,20 @@
 -- The test of all registers as a straight line: those that hold every word ask nothing. Assumes nothing.
-use mathlib.Core.Path.{_≡_, refl, _∙_}
+use mathlib.Core.Path.{_≡_, _∙_}
 use mathlib.Core.Bool.{Bool, true, _&&_}
 use mathlib.Core.List.{List}
-use Prim.Native.Nat.{ℕ, _-_}
-use lib.Bits.{bitAnd, and-zero-r}
-use lib.Dec.{eqb}
+use Prim.Native.Nat.{ℕ}
+use lib.Bits.{and-zero-r}
 use lib.ListN.{getD, length}
-use Rattle.bits.specs.Field.{top}
 use Rattle.bits.specs.Every.{every}
 use Rattle.bits.proofs.Bools.{and-assoc, and-true}
 use Rattle.bits.proofs.Every.{all, every-all}
-use Rattle.registers.specs.Places.{sstatus, stvec, sepc, satp, vsstatus, vstvec, vsepc, vsatp, mstatus, medeleg, mtvec, mepc, hstatus, hedeleg, hgatp, hgeip}
-use Rattle.registers.specs.Rules.{legal, stores-word, stores-nothing, stores-status, stores-mstatus, stores-hstatus, stores-hedeleg, stores-medeleg, stores-tvec, stores-epc, stores-satp, stores-hgatp}
+use Rattle.registers.specs.Places.{kept, stvec, sepc, satp, vsstatus, vstvec, vsepc, vsatp, mstatus, medeleg, mtvec, mepc, hstatus, hedeleg, hgatp}
+use Rattle.registers.specs.Rules.{legal, stores-word, stores-status, stores-mstatus, stores-hstatus, stores-hedeleg, stores-medeleg, stores-tvec, stores-epc, stores-satp, stores-hgatp}
 use Rattle.registers.specs.File.{holds}
 
 pub word-legal : (x : ℕ) → legal stores-word x ≡ true
 unfolding legal
 word-legal x = rw (and-zero-r x)
-
-nothing-legal : (x : ℕ) → legal stores-nothing x ≡ eqb (bitAnd x (top - 0)) 0
-unfolding legal
-nothing-legal x = refl
 
 module _ (rs : List ℕ) where
   abbrev r : ℕ → ℕ
@@ -38,6 +32,6 @@ module _ (rs : List ℕ) where
   abbrev hypervisorLegal : Bool
   hypervisorLegal = legal stores-hstatus (r hstatus) && (legal stores-hedeleg (r hedeleg) && legal stores-hgatp (r hgatp))
 
-  pub straight : length rs ≡ 29 → every holds 0 rs ≡ (eqb (r sstatus) 0 && (supervisorLegal && (guestLegal && (machineLegal && (hypervisorLegal && eqb (bitAnd (r hgeip) (top - 0)) 0)))))
+  pub straight : length rs ≡ kept → every holds 0 rs ≡ (supervisorLegal && (guestLegal && (machineLegal && hypervisorLegal)))
   unfolding all
-  straight n = every-all holds rs 0 29 0 n ∙ simp (word-legal, nothing-legal, and-assoc, and-true)
+  straight n = every-all holds rs 0 kept 0 n ∙ simp (word-legal, and-assoc, and-true)

@@ -1,16 +1,12 @@
--- A hart's registers, each at its place.
+-- The registers that a hart keeps, each at its place.
 use mathlib.Core.Bool.{Bool}
-use mathlib.Core.List.{List, [], _∷_}
+use mathlib.Core.List.{List, [], _∷_, map}
 use Prim.Native.Nat.{ℕ}
-use lib.Dec.{eqb}
-use lib.ListN.{set, replicate}
-use Rattle.bits.specs.Field.{pick}
+use lib.ListN.{set}
 use Rattle.bits.specs.Every.{every}
-use Rattle.registers.specs.Places.{sstatus, vsstatus, mstatus, hstatus}
-use Rattle.registers.specs.Rules.{legal, stores-status, stores-mstatus, stores-hstatus}
-use Rattle.registers.specs.Registers.{at}
+use Rattle.registers.specs.Rules.{Rule, legal, rules, rule}
 
--- a register and what it comes to hold
+-- a place and what it comes to hold
 pub record Write : Type 0 where
   pub place : ℕ
   pub value : ℕ
@@ -25,13 +21,13 @@ abbrev pub _with_ : List ℕ → List Write → List ℕ
 rs with [] = rs
 rs with (w ∷ ws) = set rs (w .place) (w .value) with ws
 
--- every register holds what a write of 0 leaves
+-- after reset: no stored bit is set
 abbrev pub initial : List ℕ
-initial = replicate 29 0 with (vsstatus ↢ stores-status .fixed ∷ mstatus ↢ stores-mstatus .fixed ∷ hstatus ↢ stores-hstatus .fixed ∷ [])
+initial = map (λ (r : Rule). r .fixed) rules
 
--- what a place can hold: what some write could store; sstatus is a view of mstatus, so nothing is stored at its place
+-- what a place can hold
 abbrev pub holds : ℕ → ℕ → Bool
-holds place x = pick (eqb place sstatus) (eqb x 0) (legal (at place .rule) x)
+holds place x = legal (rule place) x
 
 -- check 2 of the registers: no "register holding what no write could store"
 unfoldable pub registersPass : List ℕ → Bool

@@ -1,89 +1,87 @@
--- Each register's place: its row in the table, and where a hart keeps it.
+-- The registers that a hart keeps, each at its place: all but sstatus and hgeip, in rising order of number.
 use Prim.Native.Nat.{ℕ}
 
-abbrev pub sstatus : ℕ
-sstatus = 0
+-- how many they are
+abbrev pub kept : ℕ
+kept = 27
 
 abbrev pub stvec : ℕ
-stvec = 1
+stvec = 0
 
 abbrev pub sscratch : ℕ
-sscratch = 2
+sscratch = 1
 
 abbrev pub sepc : ℕ
-sepc = 3
+sepc = 2
 
 abbrev pub scause : ℕ
-scause = 4
+scause = 3
 
 abbrev pub stval : ℕ
-stval = 5
+stval = 4
 
 abbrev pub satp : ℕ
-satp = 6
+satp = 5
 
 abbrev pub vsstatus : ℕ
-vsstatus = 7
+vsstatus = 6
 
 abbrev pub vstvec : ℕ
-vstvec = 8
+vstvec = 7
 
 abbrev pub vsscratch : ℕ
-vsscratch = 9
+vsscratch = 8
 
 abbrev pub vsepc : ℕ
-vsepc = 10
+vsepc = 9
 
 abbrev pub vscause : ℕ
-vscause = 11
+vscause = 10
 
 abbrev pub vstval : ℕ
-vstval = 12
+vstval = 11
 
 abbrev pub vsatp : ℕ
-vsatp = 13
+vsatp = 12
 
 abbrev pub mstatus : ℕ
-mstatus = 14
+mstatus = 13
 
 abbrev pub medeleg : ℕ
-medeleg = 15
+medeleg = 14
 
 abbrev pub mtvec : ℕ
-mtvec = 16
+mtvec = 15
 
 abbrev pub mscratch : ℕ
-mscratch = 17
+mscratch = 16
 
 abbrev pub mepc : ℕ
-mepc = 18
+mepc = 17
 
 abbrev pub mcause : ℕ
-mcause = 19
+mcause = 18
 
 abbrev pub mtval : ℕ
-mtval = 20
+mtval = 19
 
 abbrev pub mtinst : ℕ
-mtinst = 21
+mtinst = 20
 
 abbrev pub mtval2 : ℕ
-mtval2 = 22
+mtval2 = 21
 
 abbrev pub hstatus : ℕ
-hstatus = 23
+hstatus = 22
 
 abbrev pub hedeleg : ℕ
-hedeleg = 24
+hedeleg = 23
 
 abbrev pub htval : ℕ
-htval = 25
+htval = 24
 
 abbrev pub htinst : ℕ
-htinst = 26
+htinst = 25
 
 abbrev pub hgatp : ℕ
-hgatp = 27
-
-abbrev pub hgeip : ℕ
-hgeip = 28
+hgatp = 26

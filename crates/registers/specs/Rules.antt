@@ -1,28 +1,24 @@
--- What each register stores of a write, and so what it can hold (document 01, "Stored bits").
+-- What each register that a hart keeps stores of a write, and so what it can hold (document 01, "Stored bits").
 use mathlib.Core.Bool.{Bool, true, false, _&&_, _||_}
 use mathlib.Core.List.{List, [], _∷_}
 use Prim.Native.Nat.{ℕ, _-_}
 use lib.Bits.{bitAnd}
 use lib.Dec.{eqb}
+use lib.ListN.{getD}
 use Rattle.bits.specs.declared.Field.{Field}
 use Rattle.bits.specs.Field.{pick, span, bit, top, bits, get, put, copy}
 use Rattle.bits.specs.Assign.{_:=_, _after_}
 use Rattle.registers.specs.Fields.{SIE, MIE, SPIE, MPIE, SPP, MPP, MPRV, SUM, MXR, TVM, TW, TSR, GVA, MPV, UXL, SXL, HGVA, SPV, SPVP, HU, VTVM, VTW, VTSR, VSXL, MODE, VMID}
 
--- a field that takes only some values; of a write with another value there, the whole is ignored or the field keeps what it held
+-- a field that takes only some values: where a write has another, the field keeps what it held, or the whole write is ignored
 pub data Restriction : Type 0 where
   free : Restriction
-  only : Field → List ℕ → (ignored : Bool) → Restriction
-
-abbrev pub keeps : Field → List ℕ → Restriction
-keeps f vs = only f vs false
-
-abbrev pub ignores : Field → List ℕ → Restriction
-ignores f vs = only f vs true
+  keeps : Field → List ℕ → Restriction
+  ignores : Field → List ℕ → Restriction
 
 -- what a register stores
 pub record Rule : Type 0 where
-  pub mask : ℕ  -- the bits that a write stores
+  pub mask : ℕ  -- the stored bits
   pub fixed : ℕ  -- what the other bits read
   pub restriction : Restriction
 
@@ -33,18 +29,16 @@ among n (x ∷ xs) = among n xs || eqb n x
 -- the restricted field of x, if there is one, holds a value that it takes
 abbrev pub allowed : Restriction → ℕ → Bool
 allowed free x = true
-allowed (only f vs ignored) x = among (get f x) vs
+allowed (keeps f vs) x = among (get f x) vs
+allowed (ignores f vs) x = among (get f x) vs
 
--- what goes into the register where w is written and old is held: for a write that is ignored, old itself
+-- what a register that held old comes to hold where x is to go into it
 abbrev pub taken : Restriction → ℕ → ℕ → ℕ
-taken free old w = w
-taken (only f vs ignored) old w = pick (among (get f w) vs) w (pick ignored old (put f (get f old) w))
+taken free old x = x
+taken (keeps f vs) old x = pick (among (get f x) vs) x (put f (get f old) x)
+taken (ignores f vs) old x = pick (among (get f x) vs) x old
 
--- what the register holds after a write of w where it held old
-unfoldable pub stored : Rule → ℕ → ℕ → ℕ
-stored r old w = copy (r .mask) (taken (r .restriction) old w) old
-
--- what it can hold
+-- what a register can hold
 unfoldable pub legal : Rule → ℕ → Bool
 legal r x = allowed (r .restriction) x && eqb (bitAnd x (top - r .mask)) (r .fixed)
 
@@ -60,7 +54,7 @@ stores-mstatus = record {
   restriction = keeps MPP (0 ∷ 1 ∷ 3 ∷ []);
 }
 
--- sstatus is mstatus's SIE, SPIE, SPP, SUM, MXR and UXL; vsstatus holds its own of these
+-- "sstatus is mstatus's SIE, SPIE, SPP, SUM, MXR and UXL; vsstatus holds its own of these"; UXL reads 2
 abbrev pub stores-status : Rule
 stores-status = stores (bits (SIE ∷ SPIE ∷ SPP ∷ SUM ∷ MXR ∷ [])) (0 after (UXL := 2 ∷ []))
 
@@ -95,6 +89,41 @@ stores-hgatp = record { mask = bits (MODE ∷ VMID ∷ span 43 2 ∷ []); fixed 
 abbrev pub stores-word : Rule
 stores-word = stores top 0
 
--- hgeip: read-only, 0
-abbrev pub stores-nothing : Rule
-stores-nothing = stores 0 0
+-- the rule of each place
+abbrev pub rules : List Rule
+rules =
+    stores-tvec ∷  -- stvec
+    stores-word ∷  -- sscratch
+    stores-epc ∷  -- sepc
+    stores-word ∷  -- scause
+    stores-word ∷  -- stval
+    stores-satp ∷  -- satp
+    stores-status ∷  -- vsstatus
+    stores-tvec ∷  -- vstvec
+    stores-word ∷  -- vsscratch
+    stores-epc ∷  -- vsepc
+    stores-word ∷  -- vscause
+    stores-word ∷  -- vstval
+    stores-satp ∷  -- vsatp
+    stores-mstatus ∷  -- mstatus
+    stores-medeleg ∷  -- medeleg
+    stores-tvec ∷  -- mtvec
+    stores-word ∷  -- mscratch
+    stores-epc ∷  -- mepc
+    stores-word ∷  -- mcause
+    stores-word ∷  -- mtval
+    stores-word ∷  -- mtinst
+    stores-word ∷  -- mtval2
+    stores-hstatus ∷  -- hstatus
+    stores-hedeleg ∷  -- hedeleg
+    stores-word ∷  -- htval
+    stores-word ∷  -- htinst
+    stores-hgatp ∷  -- hgatp
+    []
+
+abbrev pub rule : ℕ → Rule
+rule place = getD rules place stores-word
+
+-- what the register at a place comes to hold where it held old and w is written to some of its bits
+unfoldable pub stored : (place mask old w : ℕ) → ℕ
+stored place mask old w = taken (rule place .restriction) old (copy mask w old)

@@ -1,15 +1,15 @@
-// A hart's registers, each at its place.
+// The registers that a hart keeps, each at its place.
 ghost use mathlib.Core.Path.{_≡_};
 ghost use Rattle.registers.specs.File.{initial, registersPass};
 use crate::masks;
 use crate::places;
 use crate::rules;
 
-// Every register holds what a write of 0 leaves.
-pub fn reset() -> [u64; 29]
+// After reset: no stored bit is set.
+pub fn reset() -> [u64; places::KEPT]
     ensures { λ r. ⌜ r ≡ initial ⌝ }
 {
-    let mut regs = [0u64; 29];
+    let mut regs = [0u64; places::KEPT];
     regs[places::VSSTATUS] = masks::STATUS_FIXED;
     regs[places::MSTATUS] = masks::MSTATUS_FIXED;
     regs[places::HSTATUS] = masks::HSTATUS_FIXED;
@@ -17,7 +17,7 @@ pub fn reset() -> [u64; 29]
 }
 
 // Every register holds what a write could store.
-pub fn pass(r: [u64; 29]) -> bool
+pub fn pass(r: [u64; places::KEPT]) -> bool
     ensures { λ b. ⌜ b ≡ registersPass r ⌝ }
 {
     let s = rules::supervisor_legal(r[places::STVEC], r[places::SEPC], r[places::SATP]);
@@ -31,6 +31,5 @@ pub fn pass(r: [u64; 29]) -> bool
     );
     let h = rules::hypervisor_legal(r[places::HSTATUS], r[places::HEDELEG], r[places::HGATP]);
     let guest = vsstatus & vs;
-    let hgeip = rules::within(masks::NOTHING, 0, r[places::HGEIP]);
-    (r[places::SSTATUS] == 0) & (s & (guest & (m & (h & hgeip))))
+    s & (guest & (m & h))
 }

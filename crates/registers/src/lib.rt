@@ -1,4 +1,4 @@
-// The registers: named fields, what a write stores, and all twenty-nine at their places.
+// The registers: named fields, what a write stores, and those that a hart keeps at their places.
 pub mod fields;
 pub mod file;
 pub mod masks;

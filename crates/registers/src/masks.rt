@@ -28,8 +28,6 @@ use crate::fields::VTW;
 
 pub const WORD: u64 = 0xFFFF_FFFF_FFFF_FFFF;
 
-pub const NOTHING: u64 = 0;
-
 // sstatus and vsstatus
 pub const STATUS: u64 = 1 << SIE.low | 1 << SPIE.low | 1 << SPP.low | 1 << SUM.low | 1 << MXR.low;
 

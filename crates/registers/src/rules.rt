@@ -7,8 +7,7 @@ ghost use lib.Bits.{bitAnd};
 ghost use lib.Dec.{eqb};
 ghost use Rattle.bits.specs.Field.{top, get};
 ghost use Rattle.registers.specs.Fields.{MPP, MODE};
-ghost use Rattle.registers.specs.Rules.{among, taken, legal, stores-mstatus, stores-status, stores-hstatus, stores-hedeleg, stores-medeleg, stores-tvec, stores-epc, stores-satp, stores-hgatp};
-ghost use Rattle.registers.specs.Registers.{at};
+ghost use Rattle.registers.specs.Rules.{among, taken, legal, rule, stores-mstatus, stores-status, stores-hstatus, stores-hedeleg, stores-medeleg, stores-tvec, stores-epc, stores-satp, stores-hgatp};
 use crate::fields::MODE;
 use crate::fields::MPP;
 use crate::masks;
@@ -18,14 +17,14 @@ use crate::places::SATP;
 use crate::places::VSATP;
 
 // No bit outside the mask but the fixed ones.
-pub fn within(mask: u64, fixed: u64, x: u64) -> bool
+fn masked(mask: u64, fixed: u64, x: u64) -> bool
     ensures { λ r. ⌜ r ≡ eqb (bitAnd x (top - mask)) fixed ⌝ }
 {
     x & !mask == fixed
 }
 
 // MPP is a privilege.
-pub fn mpp_fits(x: u64) -> bool
+fn mpp_fits(x: u64) -> bool
     ensures { λ r. ⌜ r ≡ among (get MPP x) (0 ∷ 1 ∷ 3 ∷ []) ⌝ }
 {
     let p = MPP.get(x);
@@ -33,58 +32,58 @@ pub fn mpp_fits(x: u64) -> bool
 }
 
 // MODE is Bare or Sv39 (Sv39x4 in hgatp).
-pub fn mode_fits(x: u64) -> bool
+fn mode_fits(x: u64) -> bool
     ensures { λ r. ⌜ r ≡ among (get MODE x) (0 ∷ 8 ∷ []) ⌝ }
 {
     let m = MODE.get(x);
     (m == 8) | (m == 0)
 }
 
-// What goes into the register at a place where w is written and old is held.
-pub fn take(place: usize, old: u64, w: u64) -> u64
-    ensures { λ r. ⌜ r ≡ taken (at place .rule .restriction) old w ⌝ }
+// What the register at a place, which held old, comes to hold where x is to go into it.
+pub fn take(place: usize, old: u64, x: u64) -> u64
+    ensures { λ r. ⌜ r ≡ taken (rule place .restriction) old x ⌝ }
 {
     if place == MSTATUS {
-        return bits::select(mpp_fits(w), w, MPP.put(MPP.get(old), w));
+        return bits::select(mpp_fits(x), x, MPP.put(MPP.get(old), x));
     }
     if place == HGATP {
-        return bits::select(mode_fits(w), w, MODE.put(MODE.get(old), w));
+        return bits::select(mode_fits(x), x, MODE.put(MODE.get(old), x));
     }
     if (place == SATP) | (place == VSATP) {
-        return bits::select(mode_fits(w), w, old);
+        return bits::select(mode_fits(x), x, old);
     }
-    w
+    x
 }
 
 // The S registers that can't hold every word; vsatp and the others of VS alike.
 pub fn supervisor_legal(tvec: u64, epc: u64, satp: u64) -> bool
     ensures { λ r. ⌜ r ≡ (legal stores-tvec tvec && (legal stores-epc epc && legal stores-satp satp)) ⌝ }
 {
-    let modes = mode_fits(satp) & within(masks::WORD, 0, satp);
-    within(masks::TVEC, 0, tvec) & (within(masks::EPC, 0, epc) & modes)
+    let modes = mode_fits(satp) & masked(masks::WORD, 0, satp);
+    masked(masks::TVEC, 0, tvec) & (masked(masks::EPC, 0, epc) & modes)
 }
 
 // The M registers that can't hold every word.
 pub fn machine_legal(mstatus: u64, medeleg: u64, tvec: u64, epc: u64) -> bool
     ensures { λ r. ⌜ r ≡ (legal stores-mstatus mstatus && (legal stores-medeleg medeleg && (legal stores-tvec tvec && legal stores-epc epc))) ⌝ }
 {
-    let status = mpp_fits(mstatus) & within(masks::MSTATUS, masks::MSTATUS_FIXED, mstatus);
-    let vectors = within(masks::TVEC, 0, tvec) & within(masks::EPC, 0, epc);
-    status & (within(masks::MEDELEG, 0, medeleg) & vectors)
+    let status = mpp_fits(mstatus) & masked(masks::MSTATUS, masks::MSTATUS_FIXED, mstatus);
+    let vectors = masked(masks::TVEC, 0, tvec) & masked(masks::EPC, 0, epc);
+    status & (masked(masks::MEDELEG, 0, medeleg) & vectors)
 }
 
 // The H registers that can't hold every word.
 pub fn hypervisor_legal(hstatus: u64, hedeleg: u64, hgatp: u64) -> bool
     ensures { λ r. ⌜ r ≡ (legal stores-hstatus hstatus && (legal stores-hedeleg hedeleg && legal stores-hgatp hgatp)) ⌝ }
 {
-    let modes = mode_fits(hgatp) & within(masks::HGATP, 0, hgatp);
-    within(masks::HSTATUS, masks::HSTATUS_FIXED, hstatus)
-        & (within(masks::HEDELEG, 0, hedeleg) & modes)
+    let modes = mode_fits(hgatp) & masked(masks::HGATP, 0, hgatp);
+    masked(masks::HSTATUS, masks::HSTATUS_FIXED, hstatus)
+        & (masked(masks::HEDELEG, 0, hedeleg) & modes)
 }
 
 // vsstatus.
 pub fn status_legal(status: u64) -> bool
     ensures { λ r. ⌜ r ≡ legal stores-status status ⌝ }
 {
-    within(masks::STATUS, masks::STATUS_FIXED, status)
+    masked(masks::STATUS, masks::STATUS_FIXED, status)
 }

@@ -1,16 +1,21 @@
--- One constant table of twenty-nine rows, one for each register (document 01), and its search.
+-- One constant table of twenty-nine rows, one for each register (document 01), its search, and where each row's bits are kept.
+use mathlib.Core.Bool.{Bool}
 use mathlib.Core.List.{List, [], _∷_, map}
 use Prim.Native.Nat.{ℕ, suc}
-use lib.Dec.{eqb}
-use Rattle.bits.specs.Field.{pick}
-use Rattle.registers.specs.Registers.{Register, registers}
+use lib.Dec.{eqb, ltb}
+use lib.ListN.{getD}
+use Rattle.bits.specs.Field.{pick, top}
+use Rattle.registers.specs.Places.{kept}
+use Rattle.registers.specs.Registers.{View, Register, registers}
 use Rattle.table.specs.declared.Row.{Row}
 use Rattle.table.specs.declared.Found.{Found}
 use Rattle.table.specs.declared.Found.the-variants.{At, Nothing}
+use Rattle.table.specs.declared.kept.Kept.{Kept}
+use Rattle.table.specs.declared.kept.Pair.{Pair}
 
--- what the code's table has of a register
+-- "number, level, read-only flag and stored-bits mask": what the code's table has of a register
 abbrev pub rowOf : Register → Row
-rowOf r = record { number = r .number; level = r .level; «read_only» = r .read-only; mask = r .rule .mask }
+rowOf r = record { number = r .number; level = r .level; «read_only» = r .read-only; mask = r .view .writes }
 
 abbrev pub table : List Row
 table = map rowOf registers
@@ -19,3 +24,23 @@ table = map rowOf registers
 unfoldable pub firstAt : List Row → ℕ → ℕ → Found
 firstAt [] n i = Nothing
 firstAt (r ∷ rs) n i = pick (eqb (r .number) n) (At i r) (firstAt rs n (suc i))
+
+-- "In VS an S number reaches its VS register" (with V=1 no other mode gets so far)
+abbrev pub reached : (guest : Bool) → Register → View
+reached guest r = pick guest (r .twin) (r .view)
+
+-- a view, but for the bits that it writes: these are the row's mask
+abbrev pub keptOf : View → Kept
+keptOf v = record { home = v .home; shows = v .shows }
+
+abbrev pub pairOf : Register → Pair
+pairOf r = record { own = keptOf (r .view); twin = keptOf (r .twin) }
+
+-- the numbers of the registers that a hart keeps: those that show every bit of their place
+abbrev pub numbers : List Register → List ℕ
+numbers [] = []
+numbers (r ∷ rs) = pick (eqb (r .view .shows) top) (r .number ∷ numbers rs) (numbers rs)
+
+-- the number of the register kept at a place; 4096, which is no register's, past these
+abbrev pub numberAt : ℕ → ℕ
+numberAt place = pick (ltb place kept) (getD (numbers registers) place 0) 4096

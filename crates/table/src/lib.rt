@@ -1,7 +1,12 @@
-// The table of registers, in rising order of number, and its search.
+// The table of registers, in rising order of number, and its search; where each row's bits are kept.
 ghost use mathlib.Core.Path.{_≡_};
 ghost use Rattle.table.specs.Table.{firstAt, table};
 use registers::masks;
+
+pub mod kept;
+
+// How many registers there are.
+pub const ROWS: usize = 29;
 
 // The level that a number belongs to: S; VS and H; M.
 pub const SUPERVISOR: u64 = 1;
@@ -23,7 +28,7 @@ pub enum Found {
     Nothing,
 }
 
-const TABLE: [Row; 29] = [
+const TABLE: [Row; ROWS] = [
     // sstatus
     Row {
         number: 0x100,
@@ -225,16 +230,16 @@ const TABLE: [Row; 29] = [
         number: 0xe12,
         level: HYPERVISOR,
         read_only: true,
-        mask: masks::NOTHING,
+        mask: 0,
     },
 ];
 
 // The first row that bears the number n, in a table as long as ours.
-pub fn find(table: [Row; 29], n: u64) -> Found
+pub fn find(table: [Row; ROWS], n: u64) -> Found
     ensures { λ r. ⌜ r ≡ firstAt table n 0 ⌝ }
 {
     let mut i: usize = 0;
-    while i < 29 {
+    while i < ROWS {
         let row = table[i];
         if row.number == n {
             return Found::At(i, row);
@@ -245,7 +250,7 @@ pub fn find(table: [Row; 29], n: u64) -> Found
 }
 
 // The table; a function that used the constant would carry a copy of it in its proof.
-pub fn rows() -> [Row; 29]
+fn rows() -> [Row; ROWS]
     ensures { λ r. ⌜ r ≡ table ⌝ }
 {
     TABLE

@@ -3,18 +3,19 @@ use mathlib.Core.Path.{_≡_, refl, sym, _∙_}
 use native.Mathlib.Omega.{arith}
 use lib.ListN.{length, drop}
 use borrow.Author.Needs.{needs}
+use Rattle.registers.specs.Registers.{count}
 use Rattle.table.specs.Table.{firstAt}
 use Rattle.table.proofs.Search.{first-here, first-next, first-end}
 use Rattle.table.proofs.find.Statement.{statement}
 use Rattle.table.proofs.find.Tie as tie
 
 abbrev Inv-loop : tie.InvT-loop
-Inv-loop n table i₀ i = (i ≤ 29) × (firstAt table n 0 ≡ firstAt (drop i table) n i)
+Inv-loop n table i₀ i = (i ≤ count) × (firstAt table n 0 ≡ firstAt (drop i table) n i)
 
 abbrev μ-loop : tie.MeasureT-loop
-μ-loop n table i₀ i = 29 - i
+μ-loop n table i₀ i = count - i
 
-length-is : (c : tie.After-loop Inv-loop μ-loop) → length (c .before .before .args .t1) ≡ 29
+length-is : (c : tie.After-loop Inv-loop μ-loop) → length (c .before .before .args .t1) ≡ count
 length-is c = search needs
 
 loop-holds : tie.Need-loop-holds Inv-loop μ-loop

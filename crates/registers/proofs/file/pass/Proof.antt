@@ -1,5 +1,6 @@
 use mathlib.Core.Path.{_≡_}
 use lib.ListN.{length}
+use Rattle.registers.specs.Places.{kept}
 use Rattle.registers.specs.File.{registersPass}
 use Rattle.registers.proofs.Straight.{straight}
 use borrow.Author.Needs.{needs}
@@ -9,16 +10,15 @@ use Rattle.registers.proofs.file.pass.Tie as tie
 returns : tie.Need-returns
 unfolding registersPass
 returns c =
-    let regs = c .before .before .before .before .before .before .args .t1 in
-    let n : length regs ≡ 29 = search needs in
+    let regs = c .before .before .before .before .before .args .t1 in
+    let n : length regs ≡ kept = search needs in
     rw (
       straight regs n,
-      c .within .ensures,
-      c .before .hypervisor-legal .ensures,
-      c .before .before .machine-legal .ensures,
-      c .before .before .before .status-legal .ensures,
-      c .before .before .before .before .supervisor-legal2 .ensures,
-      c .before .before .before .before .before .supervisor-legal .ensures,
+      c .hypervisor-legal .ensures,
+      c .before .machine-legal .ensures,
+      c .before .before .status-legal .ensures,
+      c .before .before .before .supervisor-legal2 .ensures,
+      c .before .before .before .before .supervisor-legal .ensures,
     )
 
 pub pass-spec : {M : Type 1} → statement M
@@ -27,5 +27,5 @@ pass-spec =
     (tie.spec
     (λ c. search needs) (λ c. search needs) (λ c. search needs) (λ c κs. search needs) (λ c. search needs) (λ c. search needs) (λ c. search needs)
     (λ c κs. search needs) (λ c. search needs) (λ c κs. search needs) (λ c. search needs) (λ c. search needs) (λ c. search needs) (λ c. search needs)
-    (λ c κs. search needs) (λ c. search needs) (λ c. search needs) (λ c. search needs) (λ c κs. search needs) (λ c. search needs)
-    (λ c κs. search needs) (λ c. search needs) returns)
+    (λ c κs. search needs) (λ c. search needs) (λ c. search needs) (λ c. search needs) (λ c κs. search needs)
+    returns)

@@ -8,10 +8,10 @@ returns : tie.Need-returns
 unfolding legal put
 returns c =
     rw (
-      c .within4 .ensures,
-      c .before .within3 .ensures,
-      c .before .before .within2 .ensures,
-      c .before .before .before .within .ensures,
+      c .masked4 .ensures,
+      c .before .masked3 .ensures,
+      c .before .before .masked2 .ensures,
+      c .before .before .before .masked .ensures,
       c .before .before .before .before .mpp-fits .ensures,
     )
 

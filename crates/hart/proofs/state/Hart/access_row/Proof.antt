@@ -1,35 +1,35 @@
-use mathlib.Core.Path.{sym}
+use mathlib.Core.Path.{_≡_, sym, ap, _∙_}
+use lib.Dec.{eqb}
+use Rattle.registers.specs.Registers.{at}
+use Rattle.registers.proofs.Rows.{reaches-home, reaches-writes}
+use Rattle.table.specs.declared.Row.{Row}
+use Rattle.table.specs.Table.{reached}
 use Rattle.hart.specs.Access.{accessRow}
-use Rattle.hart.proofs.Reach.{reached-bound, reached-mask}
 use borrow.Author.Needs.{needs}
 use Rattle.hart.proofs.state.Hart.access_row.Statement.{statement}
 use Rattle.hart.proofs.state.Hart.access_row.Tie as tie
 
 seen-requires : tie.Need-seen-requires
-seen-requires c κs =
-    let s = c .before .before .before in
-    rw (c .reached .ensures, s .pre .1) (reached-bound (s .args .self .v) (s .args .place) (s .pre .0))
+seen-requires c κs = rw (c .reach .ensures) (reaches-home (c .before .before .before .before .args .place) (eqb (c .before .before .before .before .args .self .v) 1))
 
 written-requires : tie.Need-written-requires
-written-requires c κs =
-    let s = c .before .before .before .before .before in
-    let to = c .before .before .reached .ensures in (
-      rw (to, s .pre .1) (reached-bound (s .args .self .v) (s .args .place) (s .pre .0)),
-      rw (to, s .pre .1) (sym (reached-mask (s .args .self .v) (s .args .place))),
-    )
+written-requires c κs = rw (c .before .before .reach .ensures) (reaches-home (c .before .before .before .before .before .before .args .place) (eqb (c .before .before .before .before .before .before .args .self .v) 1))
 
 returns : tie.Need-returns
 unfolding accessRow
 returns c =
+    let a = c .before .before .before .before .before .before .before .before .before .args in
+    let m : a .row .mask ≡ reached (eqb (a .self .v) 1) (at (a .place)) .writes = ap (λ (r : Row). r .mask) (c .before .before .before .before .before .before .before .before .before .pre .1) ∙ sym (reaches-writes (a .place) (eqb (a .self .v) 1)) in
     rw (
       c .answer .ensures,
       c .before .finish .ensures,
       c .before .before .written .ensures,
       c .before .before .before .combine .ensures,
       c .before .before .before .before .seen .ensures,
-      c .before .before .before .before .before .reached .ensures,
-      c .before .before .before .before .before .before .verdict .ensures,
-      c .before .before .before .before .before .before .before .context .ensures,
+      c .before .before .before .before .before .reach .ensures,
+      c .before .before .before .before .before .before .before .verdict .ensures,
+      c .before .before .before .before .before .before .before .before .context .ensures,
+      m,
     )
 
 pub access-row-spec : {M : Type 1} → statement M
