@@ -8,7 +8,7 @@ use lib.Seq.{drop-cons, drop-at, length-take-le, length-front, sets, sets-eq, le
 use Rattle.hart.specs.declared.state.Hart.{Hart}
 use Rattle.hart.specs.declared.event.Outcome.{Outcome}
 use Rattle.hart.specs.declared.event.Outcome.the-variants.{Done, Trapped, Refused}
-use Rattle.layout.specs.Layout.{words, said, outcomeWords}
+use Rattle.layout.specs.Layout.{hart-size, words, said, outcomeWords}
 use Rattle.layout.specs.Taken.{put}
 use Rattle.layout.proofs.Lengths.{both-fit}
 
@@ -45,7 +45,7 @@ module _ (out rest : List ℕ) (n : ℕ) where
   pub grown-length : (first : List ℕ) → length first ≡ length (take n (sets out n rest)) → length (first ++ drop n (sets out n rest)) ≡ length out
   grown-length first e = length-front (sets out n rest) first n e ∙ length-sets out n rest
 
-  pub grown : (given m r : ℕ) (first ws : List ℕ) → given ≡ 32 → length out ≡ m → m ≡ n + length rest → (r, first) ≡ put given n (take n (sets out n rest)) ws → (r, first ++ drop n (sets out n rest)) ≡ put given m out (ws ++ rest)
+  pub grown : (given m r : ℕ) (first ws : List ℕ) → given ≡ hart-size → length out ≡ m → m ≡ n + length rest → (r, first) ≡ put given n (take n (sets out n rest)) ws → (r, first ++ drop n (sets out n rest)) ≡ put given m out (ws ++ rest)
   unfolding put
   grown given m r first ws g o k p =
       let inner = both-fit given _ n g (sym (lent-length (omega arith))) in

@@ -5,10 +5,11 @@ use Prim.Native.Nat.{ℕ}
 use lib.Dec.{eqb}
 use lib.ListN.{length}
 use Rattle.bits.specs.Field.{pick}
+use Rattle.layout.specs.Layout.{hart-size}
 
--- a hart of other than 32 words, or a result of other than n
+-- a hart of another size, or a result of other than n words
 unfoldable pub misfit : (hart out n : ℕ) → Bool
-misfit hart out n = not (eqb hart 32) || not (eqb out n)
+misfit hart out n = not (eqb hart hart-size) || not (eqb out n)
 
 -- a result of n words: 1, and nothing is written, where a length is wrong; else 0, and the result is written
 unfoldable pub put : (hart n : ℕ) (out result : List ℕ) → ℕ × List ℕ

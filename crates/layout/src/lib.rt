@@ -1,27 +1,35 @@
 // The word layout of a hart and of what an event comes to, in and out: a hart is read out of a slice, and results are written into one.
 ghost use mathlib.Core.Path.{_≡_};
-ghost use Rattle.layout.specs.Layout.{words, hartOf, outcomeWords, stepWords, accessWords};
+ghost use Rattle.layout.specs.Layout.{hart-size, words, hartOf, outcomeWords, step-size, stepWords, access-size, accessWords};
 ghost use Rattle.layout.specs.Taken.{put};
 use hart::access::Accessed;
 use hart::event::Outcome;
 use hart::event::Step;
 use hart::state::Hart;
+use registers::places;
+
+// How many words a hart, an event's result and a register access's take.
+pub const HART: usize = 3 + places::KEPT;
+
+pub const STEP: usize = HART + 2;
+
+pub const ACCESS: usize = STEP + 1;
 
 // The hart that some words say.
 pub fn hart_of(ws: &[u64]) -> Hart
     ensures { λ r. ⌜ r ≡ hartOf (now (ws .entry)) ⌝ }
 {
-    if ws.len() != 32 {
+    if ws.len() != HART {
         return Hart {
             v: 0,
             privilege: 0,
             pc: 0,
-            regs: [0; 29],
+            regs: [0; places::KEPT],
         };
     }
-    let mut regs = [0u64; 29];
+    let mut regs = [0u64; places::KEPT];
     let mut i: usize = 0;
-    while i < 29 {
+    while i < places::KEPT {
         regs[i] = ws[i + 3];
         i += 1;
     }
@@ -38,12 +46,12 @@ pub fn hart_of(ws: &[u64]) -> Hart
 
 // A hart.
 pub fn put_hart(h: Hart, given: usize, out: &mut [u64]) -> u64
-    ensures { λ r. ⌜ (r, now (out .exit)) ≡ put given 32 (now (out .entry)) (words h) ⌝ }
+    ensures { λ r. ⌜ (r, now (out .exit)) ≡ put given hart-size (now (out .entry)) (words h) ⌝ }
 {
-    if given != 32 {
+    if given != HART {
         return 1;
     }
-    if out.len() != 32 {
+    if out.len() != HART {
         return 1;
     }
     out[0] = h.v;
@@ -51,7 +59,7 @@ pub fn put_hart(h: Hart, given: usize, out: &mut [u64]) -> u64
     out[2] = h.pc;
     let regs = h.regs;
     let mut i: usize = 0;
-    while i < 29 {
+    while i < places::KEPT {
         out[i + 3] = regs[i];
         i += 1;
     }
@@ -70,34 +78,34 @@ fn outcome_words(o: Outcome) -> [u64; 2]
 
 // An event's result.
 pub fn put_step(s: Step, given: usize, out: &mut [u64]) -> u64
-    ensures { λ r. ⌜ (r, now (out .exit)) ≡ put given 34 (now (out .entry)) (stepWords s) ⌝ }
+    ensures { λ r. ⌜ (r, now (out .exit)) ≡ put given step-size (now (out .entry)) (stepWords s) ⌝ }
 {
-    if given != 32 {
+    if given != HART {
         return 1;
     }
-    if out.len() != 34 {
+    if out.len() != STEP {
         return 1;
     }
     let hart = s.hart;
     let outcome = s.outcome;
     let o = outcome_words(outcome);
-    out[32] = o[0];
-    out[33] = o[1];
-    put_hart(hart, given, &mut out[..32])
+    out[HART] = o[0];
+    out[HART + 1] = o[1];
+    put_hart(hart, given, &mut out[..HART])
 }
 
 // A register access's result.
 pub fn put_access(a: Accessed, given: usize, out: &mut [u64]) -> u64
-    ensures { λ r. ⌜ (r, now (out .exit)) ≡ put given 35 (now (out .entry)) (accessWords a) ⌝ }
+    ensures { λ r. ⌜ (r, now (out .exit)) ≡ put given access-size (now (out .entry)) (accessWords a) ⌝ }
 {
-    if given != 32 {
+    if given != HART {
         return 1;
     }
-    if out.len() != 35 {
+    if out.len() != ACCESS {
         return 1;
     }
     let hart = a.hart;
     let outcome = a.outcome;
-    out[34] = a.value;
-    put_step(Step { hart, outcome }, given, &mut out[..34])
+    out[STEP] = a.value;
+    put_step(Step { hart, outcome }, given, &mut out[..STEP])
 }

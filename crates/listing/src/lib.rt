@@ -104,7 +104,7 @@ pub fn put_translation(
 ) -> u64
     ensures { λ r. ⌜ (r, now (out .exit)) ≡ putKind given 67 kind (now (out .entry)) (translationWords (translated h base (now (bytes .entry)) (kindOf kind) address width)) ⌝ }
 {
-    if given != 32 {
+    if given != layout::HART {
         return 1;
     }
     if out.len() != 67 {

@@ -4,16 +4,17 @@ use native.Mathlib.Omega.{arith}
 use lib.ListN.{length, drop, length-set, length-drop}
 use lib.Seq.{sets}
 use borrow.Author.Tests.{eq-eqb, ne-eqb}
+use Rattle.registers.specs.Places.{kept}
 use Rattle.layout.specs.Layout.{hartOf}
 use Rattle.layout.proofs.Words.{sets-all, copied, copied-all}
 use Rattle.layout.proofs.hart_of.Statement.{statement}
 use Rattle.layout.proofs.hart_of.Tie as tie
 
 abbrev Inv-loop : tie.InvT-loop
-Inv-loop ws regs₀ i₀ regs i = (i ≤ 29) × (length regs ≡ 29) × (sets regs i (drop (i + 3) ws) ≡ drop 3 ws)
+Inv-loop ws regs₀ i₀ regs i = (i ≤ kept) × (length regs ≡ kept) × (sets regs i (drop (i + 3) ws) ≡ drop 3 ws)
 
 abbrev μ-loop : tie.MeasureT-loop
-μ-loop ws regs₀ i₀ regs i = 29 - i
+μ-loop ws regs₀ i₀ regs i = kept - i
 
 returns : tie.Need-returns Inv-loop μ-loop
 unfolding hartOf
