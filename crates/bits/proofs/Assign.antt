@@ -14,11 +14,11 @@ abbrev pub untouched : Field → List Assignment → Bool
 untouched g [] = true
 untouched g (a ∷ more) = apart (a .field) g && untouched g more
 
-pub kept : (g : Field) (more : List Assignment) (x : ℕ) → untouched g more ≡ true → get g (x after more) ≡ get g x
-kept g [] x t = refl
-kept g (a ∷ more) x t =
+pub untouched-kept : (g : Field) (more : List Assignment) (x : ℕ) → untouched g more ≡ true → get g (x after more) ≡ get g x
+untouched-kept g [] x t = refl
+untouched-kept g (a ∷ more) x t =
     other (a .field) g (and-left (apart (a .field) g) (untouched g more) t) (a .value) (x after more)
-    ∙ kept g more x (and-right (apart (a .field) g) (untouched g more) t)
+    ∙ untouched-kept g more x (and-right (apart (a .field) g) (untouched g more) t)
 
 -- no two assignments are to overlapping fields, so that their order doesn't matter
 abbrev pub distinct : List Assignment → Bool

@@ -2,30 +2,30 @@
 use mathlib.Core.Path.{_≡_, refl, sym, ap, ap₂, subst, _∙_}
 use mathlib.Core.Bool.{Bool, true, false, _&&_, _||_, not}
 use mathlib.Core.List.{List, [], _∷_}
-use mathlib.Core.Logic.{inl, inr, ⊎-elim}
+use mathlib.Core.Logic.{_⊎_, inl, inr, ⊎-elim}
 use Prim.Native.Nat.{ℕ, zero, suc, _+_, _%_, _^_, _-_, _<_}
 use native.Mathlib.Omega.{arith}
 use lib.Bits.{bitAnd, bitOr, and-zero-r, or-zero-r, and-mask}
-use lib.Dec.{eqb}
+use lib.Dec.{eqb, ltb}
 use lib.ListN.{getD, set, drop, length}
 use lib.Seq.{getD-set-same, getD-set-other}
-use borrow.Author.Tests.{eqb-true, eqb-false, eq-eqb}
+use borrow.Author.Tests.{eqb-true, eqb-false, eq-eqb, ltb-true}
 use Rattle.bits.specs.declared.Field.{Field}
 use Rattle.bits.specs.Field.{pick, top, get, put, has, copy}
 use Rattle.bits.specs.Assign.{_after_, _:=_}
-use Rattle.bits.proofs.Bools.{and-right, or-cases, clash, and-false, or-left, or-right, and-rest, and-comm}
-use Rattle.bits.proofs.Masks.{and-or, and-assoc}
+use Rattle.bits.specs.Every.{every}
+use Rattle.bits.proofs.Bools.{and-left, and-right, or-cases, clash, and-false, or-left, or-right, and-rest, and-comm, split, pick-both}
 use Rattle.bits.proofs.Fields.{get-lt, get-and, get-or, get-all}
-use Rattle.bits.proofs.Tests.{fits, apart, outside, got}
-use Rattle.bits.proofs.Assign.{kept}
+use Rattle.bits.proofs.Tests.{fits, apart, outside, got, other}
+use Rattle.bits.proofs.Assign.{untouched-kept}
 use Rattle.bits.proofs.Every.{every-at, every-set}
 use Rattle.registers.specs.Fields.{TVM, MIE, MPIE, MPRV, MPP, MPV, SPP, SPV}
-use Rattle.registers.specs.Places.{sstatus, stvec, sepc, satp, vsstatus, vstvec, vsepc, mstatus, mtvec, mepc, hstatus, medeleg, hedeleg, hgatp}
-use Rattle.registers.specs.Rules.{legal, among, stored, stores-mstatus, stores-status, stores-epc}
-use Rattle.registers.specs.Registers.{supervisor, machine, at}
+use Rattle.registers.specs.Places.{kept, stvec, sepc, vsstatus, vstvec, vsepc, mstatus, mtvec, mepc, hstatus, medeleg, hedeleg}
+use Rattle.registers.specs.Rules.{legal, among, stored, stores-epc, rule}
+use Rattle.registers.specs.Registers.{count, machine, View, no-bits, Register, register, registers, at}
 use Rattle.table.specs.Table.{rowOf}
-use Rattle.registers.proofs.Legal.{fine, takes, same, legal-allowed, stored-legal}
-use Rattle.registers.proofs.Rows.{row-sound}
+use Rattle.registers.proofs.Legal.{taken-has, fine, takes, same, legal-allowed}
+use Rattle.registers.proofs.Rows.{rule-sound, stored-legal, soundView, reaches-sound}
 use Rattle.status.specs.Trap.{intoM, intoS, intoH}
 use Rattle.status.specs.Return.{fromM, fromS, fromHS, fromH}
 use Rattle.status.proofs.Kept.{stays, Privilege, intoM-fine}
@@ -34,7 +34,6 @@ use Rattle.delivery.specs.declared.Target.{Target}
 use Rattle.delivery.specs.declared.Target.the-variants.{M, HS, VS}
 use Rattle.delivery.specs.Delivery.{target}
 use Rattle.privilege.specs.Mode.{isU, isHS, isM, isSet}
-use Rattle.csr.specs.Access as csr
 use Rattle.hart.specs.declared.state.Hart.{Hart}
 use Rattle.hart.specs.declared.event.Step.{Step}
 use Rattle.registers.specs.File.{Write, _↢_, _with_, holds}
@@ -42,22 +41,21 @@ use Rattle.hart.specs.Hart.{reg, context, passes}
 use Rattle.hart.specs.Deliver.{base, writesM, writesHS, writesVS, deliveredM, deliveredHS, deliveredVS, deliveredTo, delivered}
 use Rattle.hart.specs.Event.{refusal, next, moved}
 use Rattle.hart.specs.Return.{writesMRET, writesHSRET, writesVSRET, returnedM, returnedHS, returnedVS}
-use Rattle.csr.specs.Access.{reached, home}
+use Rattle.csr.specs.Access.{isSatp, isHgatp, verdict}
 use Rattle.hart.specs.Access.{written}
 use Rattle.registers.proofs.Straight.{word-legal}
-use Rattle.hart.proofs.Reach.{reached-bound}
 use Rattle.invariants.specs.Events.{Event, run}
 use Rattle.invariants.proofs.Mode.{Mode, Passing, passing, passes-of}
 use Rattle.invariants.proofs.Mode as mode
 use Rattle.invariants.proofs.Writes.{allIn, outside-kept, with-holds}
 use Rattle.invariants.proofs.Sides.{guest}
-use Rattle.invariants.proofs.Comes.{Allowed, Comes, refuses, traps, mrets, srets-VS, srets-HS, moves, writes, comes}
+use Rattle.invariants.proofs.Comes.{Allowed, reaches, Comes, refuses, traps, mrets, srets-VS, srets-HS, moves, writes, comes}
 
 -- ---- what single registers give and take
 
--- a place other than sstatus's holds what is legal there
-legal-at : (h : Hart) (place : ℕ) → eqb place sstatus ≡ false → Passing h → length (h .regs) ≡ 29 → place < 29 → legal (at place .rule) (reg h place) ≡ true
-legal-at h place n p l b = rw n at (every-at holds (h .regs) 0 (p .regs) place (omega arith))
+-- a place holds what is legal there
+legal-at : (h : Hart) (place : ℕ) → Passing h → length (h .regs) ≡ kept → place < kept → legal (rule place) (reg h place) ≡ true
+legal-at h place p l b = every-at holds (h .regs) 0 (p .regs) place (omega arith)
 
 epc-legal : (x : ℕ) → x % 4 ≡ 0 → legal stores-epc x ≡ true
 unfolding legal
@@ -123,7 +121,7 @@ not-M : (a b c : Bool) (to : Target) → pick (a || b) M (pick c VS HS) ≡ to �
 not-M true b c to e n = absurd (n (sym e))
 not-M false b c to e n = refl
 
-module _ (h : Hart) (t : Exception) (p : Passing h) (l : length (h .regs) ≡ 29) where
+module _ (h : Hart) (t : Exception) (p : Passing h) (l : length (h .regs) ≡ kept) where
   into-M : Passing (deliveredM h t)
   unfolding deliveredM
   into-M = record {
@@ -131,7 +129,7 @@ module _ (h : Hart) (t : Exception) (p : Passing h) (l : length (h .regs) ≡ 29
     aligned = base-aligned (reg h mtvec);
     mprv = ap not (and-false (isSet MPRV (getD (h .regs with writesM h t) mstatus 0)));
     regs = with-holds (writesM h t) (h .regs) (p .regs) (
-      stays mstatus (intoM (h .v) (h .privilege) (t .flag) (reg h mstatus)) (reg h mstatus) (intoM-fine (h .v) (h .privilege) (t .flag) (reg h mstatus) (privilege-of (h .v) (h .privilege) (p .mode))) (legal-at h mstatus refl p l (omega arith)),
+      stays mstatus (intoM (h .v) (h .privilege) (t .flag) (reg h mstatus)) (reg h mstatus) (intoM-fine (h .v) (h .privilege) (t .flag) (reg h mstatus) (privilege-of (h .v) (h .privilege) (p .mode))) (legal-at h mstatus p l (omega arith)),
       (epc-legal (h .pc) (p .aligned), (word-legal (t .cause), (word-legal (t .value), (word-legal (t .second), (word-legal (t .word), tt))))),
     );
   }
@@ -141,15 +139,15 @@ module _ (h : Hart) (t : Exception) (p : Passing h) (l : length (h .regs) ≡ 29
   into-HS m =
       let s = reg h mstatus in
       let e : getD (h .regs with writesHS h t) mstatus 0 ≡ (s after intoS (h .privilege) s) = first-written (h .regs) mstatus (s after intoS (h .privilege) s) (drop 1 (writesHS h t)) (omega arith) refl in
-      let c : isSet MPRV (getD (h .regs with writesHS h t) mstatus 0) ≡ false = ap (λ (x : ℕ). eqb x 1) (ap (get MPRV) e ∙ kept MPRV (intoS (h .privilege) s) s refl) ∙ clear-MPRV h p m in
+      let c : isSet MPRV (getD (h .regs with writesHS h t) mstatus 0) ≡ false = ap (λ (x : ℕ). eqb x 1) (ap (get MPRV) e ∙ untouched-kept MPRV (intoS (h .privilege) s) s refl) ∙ clear-MPRV h p m in
       record {
         mode = mode.HS;
         aligned = base-aligned (reg h stvec);
         mprv = mprv-rule _ _ c;
         regs = with-holds (writesHS h t) (h .regs) (p .regs) (
-          stays mstatus (intoS (h .privilege) s) s refl (legal-at h mstatus refl p l (omega arith)),
+          stays mstatus (intoS (h .privilege) s) s refl (legal-at h mstatus p l (omega arith)),
           (
-            stays hstatus (intoH (h .v) (h .privilege) (t .flag) (reg h hstatus)) (reg h hstatus) refl (legal-at h hstatus refl p l (omega arith)),
+            stays hstatus (intoH (h .v) (h .privilege) (t .flag) (reg h hstatus)) (reg h hstatus) refl (legal-at h hstatus p l (omega arith)),
             (epc-legal (h .pc) (p .aligned), (word-legal (t .cause), (word-legal (t .value), (word-legal (t .second), (word-legal (t .word), tt))))),
           ),
         );
@@ -165,7 +163,7 @@ module _ (h : Hart) (t : Exception) (p : Passing h) (l : length (h .regs) ≡ 29
         aligned = base-aligned (reg h vstvec);
         mprv = mprv-rule _ _ c;
         regs = with-holds (writesVS h t) (h .regs) (p .regs) (
-          stays vsstatus (intoS (h .privilege) s) s refl (legal-at h vsstatus refl p l (omega arith)),
+          stays vsstatus (intoS (h .privilege) s) s refl (legal-at h vsstatus p l (omega arith)),
           (epc-legal (h .pc) (p .aligned), (word-legal (t .cause), (word-legal (t .value), tt))),
         );
       }
@@ -189,21 +187,21 @@ picked-bit : (b : Bool) (m : ℕ) → m < 2 → pick b m 0 < 2
 picked-bit true m h = h
 picked-bit false m h = omega arith
 
-module _ (h : Hart) (p : Passing h) (l : length (h .regs) ≡ 29) where
+module _ (h : Hart) (p : Passing h) (l : length (h .regs) ≡ kept) where
   from-M : Passing (returnedM h)
   unfolding returnedM fine takes same outside apart fits
   from-M =
       let s = reg h mstatus in
       let mpp = get MPP s in
       let m = pick (eqb mpp 3) (get MPRV s) 0 in
-      let g : legal (at mstatus .rule) s ≡ true = legal-at h mstatus refl p l (omega arith) in
+      let g : legal (rule mstatus) s ≡ true = legal-at h mstatus p l (omega arith) in
       let e : get MPRV (getD (h .regs with writesMRET h) mstatus 0) ≡ m =
       ap (get MPRV) (first-written (h .regs) mstatus (s after fromM s) [] (omega arith) refl)
-      ∙ kept MPRV (MIE := get MPIE s ∷ MPIE := 1 ∷ MPP := 0 ∷ MPV := 0 ∷ []) (s after (MPRV := m ∷ [])) refl
+      ∙ untouched-kept MPRV (MIE := get MPIE s ∷ MPIE := 1 ∷ MPP := 0 ∷ MPV := 0 ∷ []) (s after (MPRV := m ∷ [])) refl
       ∙ got MPRV refl m s (picked-bit (eqb mpp 3) (get MPRV s) (get-lt MPRV s)) in
       record {
-        mode = mret-mode mpp (get MPV s) (legal-allowed (at mstatus .rule) (row-sound mstatus) s g) (get-lt MPV s);
-        aligned = epc-aligned (reg h mepc) (legal-at h mepc refl p l (omega arith));
+        mode = mret-mode mpp (get MPV s) (legal-allowed (rule mstatus) (rule-sound mstatus) s g) (get-lt MPV s);
+        aligned = epc-aligned (reg h mepc) (legal-at h mepc p l (omega arith));
         mprv = subst (λ (x : ℕ). not (eqb x 1 && not (eqb (pick (eqb mpp 3) 0 (get MPV s)) 0 && eqb mpp 3)) ≡ true) (sym e) (mret-MPRV mpp (get MPV s) (get MPRV s) (eqb mpp 3) refl);
         regs = with-holds (writesMRET h) (h .regs) (p .regs) (stays mstatus (fromM s) s refl g, tt);
       }
@@ -216,10 +214,10 @@ module _ (h : Hart) (p : Passing h) (l : length (h .regs) ≡ 29) where
       ap (get MPRV) (first-written (h .regs) mstatus (s after fromHS s) (drop 1 (writesHSRET h)) (omega arith) refl) ∙ got MPRV refl 0 (s after fromS s) (omega arith) in
       record {
         mode = bit-mode (get SPV (reg h hstatus)) (get SPP s) (get-lt SPV (reg h hstatus)) (get-lt SPP s);
-        aligned = epc-aligned (reg h sepc) (legal-at h sepc refl p l (omega arith));
+        aligned = epc-aligned (reg h sepc) (legal-at h sepc p l (omega arith));
         mprv = mprv-rule _ _ (ap (λ (x : ℕ). eqb x 1) e);
         regs = with-holds (writesHSRET h) (h .regs) (p .regs)
-            (stays mstatus (fromHS s) s refl (legal-at h mstatus refl p l (omega arith)), (stays hstatus fromH (reg h hstatus) refl (legal-at h hstatus refl p l (omega arith)), tt));
+            (stays mstatus (fromHS s) s refl (legal-at h mstatus p l (omega arith)), (stays hstatus fromH (reg h hstatus) refl (legal-at h hstatus p l (omega arith)), tt));
       }
 
   from-VS : h .v ≡ 1 → Passing (returnedVS h)
@@ -229,29 +227,21 @@ module _ (h : Hart) (p : Passing h) (l : length (h .regs) ≡ 29) where
       let m : isM (context h) ≡ false = rw v in
       record {
         mode = bit-mode 1 (get SPP s) (omega arith) (get-lt SPP s);
-        aligned = epc-aligned (reg h vsepc) (legal-at h vsepc refl p l (omega arith));
+        aligned = epc-aligned (reg h vsepc) (legal-at h vsepc p l (omega arith));
         mprv = mprv-rule _ _ (ap (λ (x : ℕ). eqb (get MPRV x) 1) (outside-kept guest (writesVSRET h) (h .regs) refl mstatus refl) ∙ clear-MPRV h p m);
-        regs = with-holds (writesVSRET h) (h .regs) (p .regs) (stays vsstatus (fromS s) s refl (legal-at h vsstatus refl p l (omega arith)), tt);
+        regs = with-holds (writesVSRET h) (h .regs) (p .regs) (stays vsstatus (fromS s) s refl (legal-at h vsstatus p l (omega arith)), tt);
       }
 
 -- ---- register access
 
--- mstatus is reached by M's numbers alone
-reaches-mstatus : (v i : ℕ) → reached v (at i .level) i ≡ mstatus → eqb (at i .level) machine ≡ true
-reaches-mstatus v i = go (eqb v 1 && eqb (at i .level) supervisor) refl
-  where
-    go : (b : Bool) → (eqb v 1 && eqb (at i .level) supervisor) ≡ b → pick b (i + 7) i ≡ mstatus → eqb (at i .level) machine ≡ true
-    go true e q = let k : i ≡ 7 = omega arith in clash (rw k at (and-right (eqb v 1) (eqb (at i .level) supervisor) e))
-    go false e q = rw q
-
--- and so in M alone
-machine-allowed : (r u hs v m t : Bool) → (r || (u || (hs && (m || t) || v && m))) ≡ false → m ≡ true → (u ≡ false) × (hs ≡ false) × (v ≡ false)
+-- M's numbers are reached in M alone
+machine-allowed : (r u hs v m t : Bool) → (r || ((u || hs && (m || t)) || v && m)) ≡ false → m ≡ true → (u ≡ false) × (hs ≡ false) × (v ≡ false)
 machine-allowed r u hs v m t e k =
-    let e₁ = or-right r (u || (hs && (m || t) || v && m)) e in
-    let e₂ = or-right u (hs && (m || t) || v && m) e₁ in (
-      or-left u (hs && (m || t) || v && m) e₁,
-      and-rest (m || t) hs (ap (λ (b : Bool). b || t) k) (and-comm (m || t) hs ∙ or-left (hs && (m || t)) (v && m) e₂),
-      and-rest m v k (and-comm m v ∙ or-right (hs && (m || t)) (v && m) e₂),
+    let e₁ = or-right r ((u || hs && (m || t)) || v && m) e in
+    let e₂ = or-left (u || hs && (m || t)) (v && m) e₁ in (
+      or-left u (hs && (m || t)) e₂,
+      and-rest (m || t) hs (ap (λ (b : Bool). b || t) k) (and-comm (m || t) hs ∙ or-right u (hs && (m || t)) e₂),
+      and-rest m v k (and-comm m v ∙ or-right (u || hs && (m || t)) (v && m) e₁),
     )
 
 only-M : (v p : ℕ) → Mode v p → (eqb v 0 && eqb p 0) ≡ false → (eqb v 0 && eqb p 1) ≡ false → eqb v 1 ≡ false → (eqb v 0 && eqb p 3) ≡ true
@@ -261,65 +251,82 @@ only-M v p mode.M a b c = refl
 only-M v p mode.VU a b c = sym c
 only-M v p mode.VS a b c = sym c
 
-in-M : (h : Hart) (place : ℕ) (w : Bool) → Passing h → Allowed (csr.verdict (context h) place (rowOf (at place)) w) → eqb (at place .level) machine ≡ true → isM (context h) ≡ true
+in-M : (h : Hart) (place : ℕ) (w : Bool) → Passing h → Allowed (verdict (context h) (rowOf (at place)) w) → eqb (at place .level) machine ≡ true → isM (context h) ≡ true
 in-M h place w p a m =
     let c = context h in
-    let k = machine-allowed (w && at place .read-only) (isU c) (isHS c) (eqb (h .v) 1) (eqb (at place .level) machine) (isSet TVM (c .mstatus) && (eqb place satp || eqb place hgatp)) (a .not2) m in
+    let row = rowOf (at place) in
+    let k = machine-allowed (w && at place .read-only) (isU c) (isHS c) (eqb (h .v) 1) (eqb (at place .level) machine) (isSet TVM (c .mstatus) && (isSatp row || isHgatp row)) (a .not2) m in
     only-M (h .v) (h .privilege) (p .mode) (k .0) (k .1) (k .2)
 
--- a write of sstatus goes through to fields of mstatus that are neither MPP nor MPRV
+-- a view of mstatus without MPRV
+abbrev sparesMPRV : View → Bool
+sparesMPRV v = not (eqb (v .home) mstatus) || (eqb (get MPRV (v .writes)) 0 && eqb (get MPRV (top - v .writes)) 1)
+
+-- one computed test: MPRV is written by M's numbers alone
+abbrev test : ℕ → Register → Bool
+test i r = eqb (r .level) machine || (sparesMPRV (r .view) && sparesMPRV (r .twin))
+
+tested : every test 0 registers ≡ true
+unfolding every get
+tested = refl
+
 copy-other : (f : Field) (mask w old : ℕ) → get f mask ≡ 0 → get f (top - mask) ≡ 2 ^ (f .width) - 1 → get f (copy mask w old) ≡ get f old
 copy-other f mask w old a b =
     get-or f (bitAnd old (top - mask)) (bitAnd w mask)
     ∙ ap₂ bitOr (get-and f old (top - mask) ∙ ap (bitAnd (get f old)) b ∙ get-all f old) (get-and f w mask ∙ ap (bitAnd (get f w)) a ∙ and-zero-r (get f w))
     ∙ or-zero-r (get f old)
 
-copy-seen : (mask k w old : ℕ) → bitAnd (top - mask) k ≡ k → bitAnd mask k ≡ 0 → bitAnd (copy mask w old) k ≡ bitAnd old k
-copy-seen mask k w old a b =
-    and-or (bitAnd old (top - mask)) (bitAnd w mask) k
-    ∙ ap₂ bitOr (and-assoc old (top - mask) k ∙ ap (bitAnd old) a) (and-assoc w mask k ∙ ap (bitAnd w) b ∙ and-zero-r w)
-    ∙ or-zero-r (bitAnd old k)
+-- a write to mstatus without MPRV keeps it
+kept-MPRV : (mask old x : ℕ) → (eqb (get MPRV mask) 0 && eqb (get MPRV (top - mask)) 1) ≡ true → get MPRV (stored mstatus mask old x) ≡ get MPRV old
+unfolding stored apart fits
+kept-MPRV mask old x t =
+    let n : get MPRV (copy mask x old) ≡ get MPRV old = split (eqb (get MPRV mask) 0) _ t (λ a b. copy-other MPRV mask x old (eqb-true _ _ a) (eqb-true _ _ b)) in
+    taken-has (λ (y : ℕ). get MPRV y ≡ get MPRV old) (rule mstatus .restriction) old (copy mask x old) refl n
+    (λ f vs e. let q : MPP ≡ f = cc in subst (λ (g : Field). get MPRV (put g (get g old) (copy mask x old)) ≡ get MPRV old) q (other MPP MPRV refl (get MPP old) (copy mask x old) ∙ n))
 
-status-legal : (m x : ℕ) → legal stores-mstatus m ≡ true → legal stores-mstatus (stored stores-status m x) ≡ true
-unfolding legal stored get put
-status-legal m x t = rw (copy-other MPP (stores-status .mask) x m refl refl, copy-seen (stores-status .mask) (top - stores-mstatus .mask) x m refl refl) t
+module _ (h : Hart) (v : View) (x : ℕ) (p : Passing h) (l : length (h .regs) ≡ kept) (s : soundView v ≡ true) where
+  in-places : v .home < kept
+  in-places = ltb-true _ _ (and-left (ltb (v .home) kept) _ s)
 
-status-MPRV : (m x : ℕ) → get MPRV (stored stores-status m x) ≡ get MPRV m
-unfolding stored get
-status-MPRV m x = copy-other MPRV (stores-status .mask) x m refl refl
+  new : ℕ
+  new = stored (v .home) (v .writes) (reg h (v .home)) x
 
-module _ (h : Hart) (to x : ℕ) (p : Passing h) (l : length (h .regs) ≡ 29) (below : to < 29) where
-  new-holds : holds (home to) (stored (at to .rule) (reg h (home to)) x) ≡ true
-  new-holds = go (eqb to sstatus) refl
+  new-holds : holds (v .home) new ≡ true
+  unfolding new
+  new-holds = stored-legal (v .home) (v .writes) (reg h (v .home)) x (and-right (ltb (v .home) kept) _ s) (legal-at h (v .home) p l in-places)
+
+  new-MPRV : sparesMPRV v ≡ true → get MPRV (getD (set (h .regs) (v .home) new) mstatus 0) ≡ get MPRV (reg h mstatus)
+  unfolding new
+  new-MPRV t = go (eqb (v .home) mstatus) refl t
     where
-      go : (b : Bool) → eqb to sstatus ≡ b → holds (pick b mstatus to) (stored (at to .rule) (reg h (pick b mstatus to)) x) ≡ true
-      go true e = subst (λ (i : ℕ). legal stores-mstatus (stored (at i .rule) (reg h mstatus) x) ≡ true) (sym (eqb-true to sstatus e)) (status-legal (reg h mstatus) x (legal-at h mstatus refl p l (omega arith)))
-      go false e = rw e (stored-legal (at to .rule) (row-sound to) (reg h to) x (legal-at h to e p l below))
+      go : (b : Bool) → eqb (v .home) mstatus ≡ b → (not b || (eqb (get MPRV (v .writes)) 0 && eqb (get MPRV (top - v .writes)) 1)) ≡ true
+          → get MPRV (getD (set (h .regs) (v .home) (stored (v .home) (v .writes) (reg h (v .home)) x)) mstatus 0) ≡ get MPRV (reg h mstatus)
+      go true e k = rw (eqb-true (v .home) mstatus e) (ap (get MPRV) (getD-set-same (h .regs) mstatus _ 0 (omega arith)) ∙ kept-MPRV (v .writes) (reg h mstatus) x k)
+      go false e k = ap (get MPRV) (getD-set-other (h .regs) (v .home) mstatus _ 0 (λ q. eqb-false (v .home) mstatus e (sym q)))
 
-  new-MPRV : (to ≡ mstatus → isM (context h) ≡ true) → not (isSet MPRV (getD (set (h .regs) (home to) (stored (at to .rule) (reg h (home to)) x)) mstatus 0) && not (isM (context h))) ≡ true
-  new-MPRV m = go (eqb to sstatus) refl
-    where
-      rule : (y : ℕ) → get MPRV y ≡ get MPRV (reg h mstatus) → not (isSet MPRV y && not (isM (context h))) ≡ true
-      rule y e = subst (λ (n : ℕ). not (eqb n 1 && not (isM (context h))) ≡ true) (sym e) (p .mprv)
-
-      other : (b : Bool) → eqb to mstatus ≡ b → not (isSet MPRV (getD (set (h .regs) to (stored (at to .rule) (reg h to) x)) mstatus 0) && not (isM (context h))) ≡ true
-      other true e = rw (m (eqb-true to mstatus e)) (ap not (and-false (isSet MPRV (getD (set (h .regs) to (stored (at to .rule) (reg h to) x)) mstatus 0))))
-      other false e = rule _ (ap (get MPRV) (getD-set-other (h .regs) to mstatus _ 0 (λ q. eqb-false to mstatus e (sym q))))
-
-      go : (b : Bool) → eqb to sstatus ≡ b → not (isSet MPRV (getD (set (h .regs) (pick b mstatus to) (stored (at to .rule) (reg h (pick b mstatus to)) x)) mstatus 0) && not (isM (context h))) ≡ true
-      go true e =
-          rule _ (ap (get MPRV) (getD-set-same (h .regs) mstatus _ 0 (omega arith))
-          ∙ subst (λ (i : ℕ). get MPRV (stored (at i .rule) (reg h mstatus) x) ≡ get MPRV (reg h mstatus)) (sym (eqb-true to sstatus e)) (status-MPRV (reg h mstatus) x))
-      go false e = other (eqb to mstatus) refl
-
-  written-passes : (to ≡ mstatus → isM (context h) ≡ true) → (w : Bool) → Passing (written h to x w)
-  unfolding written
-  written-passes m true = record { mode = p .mode; aligned = next-aligned (h .pc) (p .aligned); mprv = new-MPRV m; regs = every-set holds (h .regs) (home to) _ (p .regs) new-holds }
+  written-passes : (isM (context h) ≡ true) ⊎ (sparesMPRV v ≡ true) → (w : Bool) → Passing (written h (v .home) (v .writes) x w)
+  unfolding written new
+  written-passes m true =
+      record {
+        mode = p .mode;
+        aligned = next-aligned (h .pc) (p .aligned);
+        mprv = ⊎-elim (λ i. rw i (ap not (and-false (isSet MPRV (getD (set (h .regs) (v .home) new) mstatus 0)))))
+            (λ t. subst (λ (n : ℕ). not (eqb n 1 && not (isM (context h))) ≡ true) (sym (new-MPRV t)) (p .mprv)) m;
+        regs = every-set holds (h .regs) (v .home) _ (p .regs) new-holds;
+      }
   written-passes m false = record { mode = p .mode; aligned = next-aligned (h .pc) (p .aligned); mprv = p .mprv; regs = p .regs }
+
+-- what an access that is allowed reaches has no MPRV, but in M
+reaches-MPRV : (h : Hart) (place : ℕ) (w : Bool) → Passing h → place < count → Allowed (verdict (context h) (rowOf (at place)) w) → (isM (context h) ≡ true) ⊎ (sparesMPRV (reaches h place) ≡ true)
+reaches-MPRV h place w p b a =
+    ⊎-elim (λ m. inl (in-M h place w p a m))
+    (λ t. split (sparesMPRV (at place .view)) (sparesMPRV (at place .twin)) t
+    (λ o g. inr (pick-both (λ (v : View). sparesMPRV v ≡ true) (eqb (h .v) 1) (at place .twin) (at place .view) (λ e. g) (λ e. o))))
+    (or-cases (eqb (at place .level) machine) _ (every-at test registers (register 0 0 no-bits) tested place b))
 
 -- ---- every event
 
-leaves : (h : Hart) (s : Step) → length (h .regs) ≡ 29 → Comes h s → refusal (s .outcome) ≡ 0 → passes (s .hart) ≡ true
+leaves : (h : Hart) (s : Step) → length (h .regs) ≡ kept → Comes h s → refusal (s .outcome) ≡ 0 → passes (s .hart) ≡ true
 leaves h s l (refuses n z) r = clash (sym z ∙ eq-eqb n 0 r)
 leaves h s l (traps a t) r = passes-of (delivered h t) (delivered-passes h t (passing h a) l)
 leaves h s l (mrets a m) r = passes-of (returnedM h) (from-M h (passing h a) l)
@@ -328,10 +335,9 @@ leaves h s l (srets-HS a v) r = passes-of (returnedHS h) (from-HS h (passing h a
 leaves h s l (moves a) r = let p = passing h a in passes-of (moved h) (record { mode = p .mode; aligned = next-aligned (h .pc) (p .aligned); mprv = p .mprv; regs = p .regs })
 leaves h s l (writes a place b w v x) r =
     let p = passing h a in
-    let to = reached (h .v) (at place .level) place in
-    passes-of (written h to x w)
-    (written-passes h to x p l (reached-bound (h .v) place b) (λ e. in-M h place w p v (reaches-mstatus (h .v) place e)) w)
+    let to = reaches h place in
+    passes-of (written h (to .home) (to .writes) x w) (written-passes h to x p l (reaches-sound place (eqb (h .v) 1)) (reaches-MPRV h place w p b v) w)
 
--- every accepted event leaves a hart that passes check 2 (a hart has twenty-nine registers)
-pub accepted-passes : (e : Event) (h : Hart) → length (h .regs) ≡ 29 → refusal (run e h .outcome) ≡ 0 → passes (run e h .hart) ≡ true
+-- every accepted event leaves a hart that passes check 2 (a hart keeps so many registers)
+pub accepted-passes : (e : Event) (h : Hart) → length (h .regs) ≡ kept → refusal (run e h .outcome) ≡ 0 → passes (run e h .hart) ≡ true
 accepted-passes e h l = leaves h (run e h) l (comes e h)

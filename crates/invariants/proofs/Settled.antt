@@ -12,26 +12,26 @@ use Rattle.hart.specs.Hart.{passes}
 use Rattle.hart.specs.Event.{refused, raised, settled}
 
 -- what an event comes to is the hart as given, refused; or a cause raised; or the step that is done: each with what led there
-pub settled-cases : (P : Step → Type 0) (h : Hart) (own : ℕ) (verdict : Verdict) (finished : Step)
+pub settled-cases : (P : Step → Type 0) (h : Hart) (own : ℕ) (verdict : Verdict) (value : ℕ) (finished : Step)
     → ((n : ℕ) → eqb n 0 ≡ false → P (refused h n))
-    → (passes h ≡ true → (cause : ℕ) → P (raised h cause))
+    → (passes h ≡ true → (cause : ℕ) → P (raised h cause value))
     → (passes h ≡ true → own ≡ 0 → verdict .gives2 ≡ false → verdict .gives22 ≡ false → P finished)
-    → P (settled h own verdict finished)
+    → P (settled h own verdict value finished)
 unfolding settled
-settled-cases P h own verdict finished r c d = one (not (passes h)) refl
+settled-cases P h own verdict value finished r c d = one (not (passes h)) refl
   where
-    four : passes h ≡ true → own ≡ 0 → verdict .gives2 ≡ false → (b : Bool) → verdict .gives22 ≡ b → P (pick b (raised h 22) finished)
+    four : passes h ≡ true → own ≡ 0 → verdict .gives2 ≡ false → (b : Bool) → verdict .gives22 ≡ b → P (pick b (raised h 22 value) finished)
     four p o v true e = c p 22
     four p o v false e = d p o v e
 
-    three : passes h ≡ true → own ≡ 0 → (b : Bool) → verdict .gives2 ≡ b → P (pick b (raised h 2) (pick (verdict .gives22) (raised h 22) finished))
+    three : passes h ≡ true → own ≡ 0 → (b : Bool) → verdict .gives2 ≡ b → P (pick b (raised h 2 value) (pick (verdict .gives22) (raised h 22 value) finished))
     three p o true e = c p 2
     three p o false e = four p o e (verdict .gives22) refl
 
-    two : passes h ≡ true → (b : Bool) → not (eqb own 0) ≡ b → P (pick b (refused h own) (pick (verdict .gives2) (raised h 2) (pick (verdict .gives22) (raised h 22) finished)))
+    two : passes h ≡ true → (b : Bool) → not (eqb own 0) ≡ b → P (pick b (refused h own) (pick (verdict .gives2) (raised h 2 value) (pick (verdict .gives22) (raised h 22 value) finished)))
     two p true e = r own (not-true _ e)
     two p false e = three p (eqb-true _ _ (not-false _ e)) (verdict .gives2) refl
 
-    one : (b : Bool) → not (passes h) ≡ b → P (pick b (refused h 2) (pick (not (eqb own 0)) (refused h own) (pick (verdict .gives2) (raised h 2) (pick (verdict .gives22) (raised h 22) finished))))
+    one : (b : Bool) → not (passes h) ≡ b → P (pick b (refused h 2) (pick (not (eqb own 0)) (refused h own) (pick (verdict .gives2) (raised h 2 value) (pick (verdict .gives22) (raised h 22 value) finished))))
     one true e = r 2 refl
     one false e = two (not-false _ e) (not (eqb own 0)) refl

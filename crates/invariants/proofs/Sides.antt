@@ -10,7 +10,6 @@ use borrow.Author.Tests.{eqb-true}
 use Rattle.bits.specs.Field.{pick, has}
 use Rattle.bits.proofs.Bools.{clash}
 use Rattle.registers.specs.Places.{vsstatus, vsatp, medeleg, hedeleg}
-use Rattle.registers.specs.Registers.{at}
 use Rattle.exceptions.specs.declared.Exception.{Exception}
 use Rattle.privilege.specs.Mode.{isM}
 use Rattle.delivery.specs.declared.Target.{Target}
@@ -21,7 +20,6 @@ use Rattle.hart.specs.declared.event.Step.{Step}
 use Rattle.hart.specs.Hart.{reg, context}
 use Rattle.hart.specs.Deliver.{writesM, writesHS, writesVS, deliveredM, deliveredHS, deliveredVS, deliveredTo, delivered}
 use Rattle.hart.specs.Return.{writesMRET, writesHSRET, writesVSRET, returnedM, returnedHS, returnedVS}
-use Rattle.csr.specs.Access.{reached, home}
 use Rattle.hart.specs.Access.{written}
 use Rattle.invariants.specs.Events.{Event, run}
 use Rattle.invariants.proofs.Writes.{apart, outside-kept}
@@ -70,10 +68,10 @@ set-side : (h : Hart) (place x : ℕ) (b : Bool) → guest place ≡ b → ((p :
 set-side h place x true e = inl (λ p f. getD-set-other (h .regs) place p x 0 (apart guest p place f e))
 set-side h place x false e = inr (λ p f. getD-set-other (h .regs) place p x 0 (apart host p place f (ap not e)))
 
-written-side : (h : Hart) (place x : ℕ) (writes : Bool) → OneSide h (written h place x writes)
+written-side : (h : Hart) (home mask x : ℕ) (writes : Bool) → OneSide h (written h home mask x writes)
 unfolding written
-written-side h place x true = set-side h (home place) _ (guest (home place)) refl
-written-side h place x false = inl (λ p f. refl)
+written-side h home mask x true = set-side h home _ (guest home) refl
+written-side h home mask x false = inl (λ p f. refl)
 
 side : (h : Hart) (s : Step) → Comes h s → OneSide h (s .hart)
 unfolding returnedM returnedHS returnedVS
@@ -83,7 +81,7 @@ side h s (mrets a m) = inr (outside-kept host (writesMRET h) (h .regs) refl)
 side h s (srets-VS a v) = inl (outside-kept guest (writesVSRET h) (h .regs) refl)
 side h s (srets-HS a v) = inr (outside-kept host (writesHSRET h) (h .regs) refl)
 side h s (moves a) = inl (λ p f. refl)
-side h s (writes a place l w v x) = written-side h (reached (h .v) (at place .level) place) x w
+side h s (writes a place l w v x) = written-side h _ _ x w
 
 -- every event changes VS registers alone, or none of them
 pub never-swapped : (e : Event) (h : Hart) → OneSide h (run e h .hart)
