@@ -10,19 +10,19 @@
  *   BALCUMENTRI_WRONG_LENGTH  a slice has a wrong length; nothing is written
  *   BALCUMENTRI_WRONG_KIND    (a translation's alone) no kind of access has that number; nothing is written
  *
- * A hart, 32 words:
+ * A hart, 30 words:
  *   0  V            1  privilege: 0 U, 1 S, 3 M            2  pc
- *   3 + place       the register at a place of the table, 0 to 28, in this order: sstatus stvec sscratch sepc scause stval satp;
- *                   the same seven of VS; mstatus medeleg mtvec mscratch mepc mcause mtval mtinst mtval2; hstatus hedeleg htval
- *                   htinst hgatp hgeip. sstatus is a view of mstatus and hgeip a constant, so their words are 0.
+ *   3 + place       the register kept at a place, 0 to 26, in this order: stvec sscratch sepc scause stval satp; vsstatus and the
+ *                   same six of VS; mstatus medeleg mtvec mscratch mepc mcause mtval mtinst mtval2; hstatus hedeleg htval htinst
+ *                   hgatp. sstatus is a view of mstatus and hgeip a constant: they are not kept.
  *
- * An event's result, 34 words:
- *   0 to 31   the next hart
- *   32        what the event came to: 0 done, 1 trapped, 2 refused
- *   33        0, the trap's cause, the refusal's number
+ * An event's result, 32 words:
+ *   0 to 29   the next hart
+ *   30        what the event came to: 0 done, 1 trapped, 2 refused
+ *   31        0, the trap's cause, the refusal's number
  *
- * A register access's result, 35 words: the same, and
- *   34        the value answered, 0 where the access trapped or was refused
+ * A register access's result, 33 words: the same, and
+ *   32        the value answered, 0 where the access trapped or was refused
  *
  * A translation's result, 67 words (the hart stays as it is):
  *   0         0 an address, 1 a fault, 2 refused
@@ -47,9 +47,9 @@ extern "C" {
 #define BALCUMENTRI_WRONG_LENGTH 1
 #define BALCUMENTRI_WRONG_KIND 2
 
-#define BALCUMENTRI_HART_WORDS 32
-#define BALCUMENTRI_STEP_WORDS 34
-#define BALCUMENTRI_ACCESS_WORDS 35
+#define BALCUMENTRI_HART_WORDS 30
+#define BALCUMENTRI_STEP_WORDS 32
+#define BALCUMENTRI_ACCESS_WORDS 33
 #define BALCUMENTRI_TRANSLATION_WORDS 67
 
 /* What an event or a translation came to. */
@@ -63,11 +63,11 @@ extern "C" {
 #define BALCUMENTRI_LOAD 1
 #define BALCUMENTRI_STORE 2
 
-/* What the two lookups answer where there is no such register. */
-#define BALCUMENTRI_NO_PLACE 29
+/* What the two lookups answer where a hart keeps no such register. */
+#define BALCUMENTRI_NO_PLACE 27
 #define BALCUMENTRI_NO_NUMBER 4096
 
-/* A hart whose registers hold what a write of 0 leaves. out: 32 words. */
+/* A hart of whose registers no stored bit is set. out: 30 words. */
 uint64_t balcumentri_reset(uint64_t v, uint64_t privilege, uint64_t pc, uint64_t *out, size_t out_words);
 
 /* Check 2: out[0] is 1 where the hart can be one, else 0. out: 1 word. */
@@ -77,7 +77,7 @@ uint64_t balcumentri_passes(const uint64_t *hart, size_t hart_words, uint64_t *o
 uint64_t balcumentri_translate(const uint64_t *hart, size_t hart_words, uint64_t base, const uint8_t *bytes, size_t length,
                                uint64_t kind, uint64_t address, uint64_t width, uint64_t *out, size_t out_words);
 
-/* Register access by number. A set or a clear writes where its flag says so. out: 35 words. */
+/* Register access by number. A set or a clear writes where its flag says so. out: 33 words. */
 uint64_t balcumentri_read(const uint64_t *hart, size_t hart_words, uint64_t number, uint64_t *out, size_t out_words);
 uint64_t balcumentri_write(const uint64_t *hart, size_t hart_words, uint64_t number, uint64_t value, uint64_t *out,
                            size_t out_words);
@@ -86,11 +86,11 @@ uint64_t balcumentri_set(const uint64_t *hart, size_t hart_words, uint64_t numbe
 uint64_t balcumentri_clear(const uint64_t *hart, size_t hart_words, uint64_t number, uint64_t value, bool writes,
                            uint64_t *out, size_t out_words);
 
-/* A trap request: a fault that a translation answered, or another cause. out: 34 words. */
+/* A trap request: a fault that a translation answered, or another cause. out: 32 words. */
 uint64_t balcumentri_trap(const uint64_t *hart, size_t hart_words, uint64_t cause, uint64_t value, uint64_t second,
                           uint64_t word, bool flag, uint64_t *out, size_t out_words);
 
-/* The instructions ECALL, EBREAK, MRET, SRET, WFI, SFENCE.VMA, HFENCE.VVMA and HFENCE.GVMA. out: 34 words. */
+/* The instructions ECALL, EBREAK, MRET, SRET, WFI, SFENCE.VMA, HFENCE.VVMA and HFENCE.GVMA. out: 32 words. */
 uint64_t balcumentri_ecall(const uint64_t *hart, size_t hart_words, uint64_t *out, size_t out_words);
 uint64_t balcumentri_ebreak(const uint64_t *hart, size_t hart_words, uint64_t *out, size_t out_words);
 uint64_t balcumentri_mret(const uint64_t *hart, size_t hart_words, uint64_t *out, size_t out_words);
@@ -100,7 +100,7 @@ uint64_t balcumentri_sfence_vma(const uint64_t *hart, size_t hart_words, uint64_
 uint64_t balcumentri_hfence_vvma(const uint64_t *hart, size_t hart_words, uint64_t *out, size_t out_words);
 uint64_t balcumentri_hfence_gvma(const uint64_t *hart, size_t hart_words, uint64_t *out, size_t out_words);
 
-/* The place of the register with a number, and the number of the register at a place. */
+/* The place of the register that a hart keeps with a number, and the number of the register at a place. */
 uint64_t balcumentri_place(uint64_t number);
 uint64_t balcumentri_number(uint64_t place);
 

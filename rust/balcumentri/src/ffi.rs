@@ -5,15 +5,19 @@
 
 use crate::translation::{Image, Read};
 
-/// How many registers the table has.
-pub const REGISTERS: usize = 29;
+/// How many registers a hart keeps.
+pub const KEPT: usize = 27;
+/// How many words a hart, an event's result and a register access's take.
+pub const HART: usize = 3 + KEPT;
+pub const STEP: usize = HART + 2;
+pub const ACCESS: usize = STEP + 1;
 
 /// A hart's words.
-pub type HartWords = [u64; 32];
+pub type HartWords = [u64; HART];
 /// An event's result.
-pub type StepWords = [u64; 34];
+pub type StepWords = [u64; STEP];
 /// A register access's result.
-pub type AccessWords = [u64; 35];
+pub type AccessWords = [u64; ACCESS];
 /// A translation's result: 67 words, by name.
 #[derive(Clone, Copy, Debug, Default)]
 #[repr(C)]
@@ -107,7 +111,7 @@ extern "C" {
 
 /// A hart whose registers hold what a write of 0 leaves.
 pub fn reset(v: u64, privilege: u64, pc: u64) -> HartWords {
-    let mut out = [0; 32];
+    let mut out = [0; HART];
     // SAFETY: out is lent for the call, with its own length.
     unsafe { balcumentri_reset(v, privilege, pc, out.as_mut_ptr(), out.len()) };
     out
@@ -152,7 +156,7 @@ pub fn translate_into(
 
 /// Reads a register.
 pub fn read(hart: &HartWords, number: u64) -> AccessWords {
-    let mut out = [0; 35];
+    let mut out = [0; ACCESS];
     // SAFETY: as in `passes`.
     unsafe {
         balcumentri_read(
@@ -168,7 +172,7 @@ pub fn read(hart: &HartWords, number: u64) -> AccessWords {
 
 /// Writes a register.
 pub fn write(hart: &HartWords, number: u64, value: u64) -> AccessWords {
-    let mut out = [0; 35];
+    let mut out = [0; ACCESS];
     // SAFETY: as in `passes`.
     unsafe {
         balcumentri_write(
@@ -185,7 +189,7 @@ pub fn write(hart: &HartWords, number: u64, value: u64) -> AccessWords {
 
 /// Sets bits of a register.
 pub fn set(hart: &HartWords, number: u64, value: u64, writes: bool) -> AccessWords {
-    let mut out = [0; 35];
+    let mut out = [0; ACCESS];
     // SAFETY: as in `passes`.
     unsafe {
         balcumentri_set(
@@ -203,7 +207,7 @@ pub fn set(hart: &HartWords, number: u64, value: u64, writes: bool) -> AccessWor
 
 /// Clears bits of a register.
 pub fn clear(hart: &HartWords, number: u64, value: u64, writes: bool) -> AccessWords {
-    let mut out = [0; 35];
+    let mut out = [0; ACCESS];
     // SAFETY: as in `passes`.
     unsafe {
         balcumentri_clear(
@@ -228,7 +232,7 @@ pub fn trap(
     word: u64,
     flag: bool,
 ) -> StepWords {
-    let mut out = [0; 34];
+    let mut out = [0; STEP];
     // SAFETY: as in `passes`.
     unsafe {
         balcumentri_trap(
@@ -247,7 +251,7 @@ pub fn trap(
 }
 
 fn event(call: Event, hart: &HartWords) -> StepWords {
-    let mut out = [0; 34];
+    let mut out = [0; STEP];
     // SAFETY: as in `passes`; call is one of the functions below, all with these four parameters.
     unsafe { call(hart.as_ptr(), hart.len(), out.as_mut_ptr(), out.len()) };
     out
@@ -293,7 +297,7 @@ pub fn hfence_gvma(hart: &HartWords) -> StepWords {
     event(balcumentri_hfence_gvma, hart)
 }
 
-/// The place of the register with a number, or 29.
+/// The place of the register that a hart keeps with a number, or [`KEPT`].
 pub fn place(number: u64) -> usize {
     // SAFETY: numbers alone go in and out.
     unsafe { balcumentri_place(number) as usize }

@@ -2,7 +2,6 @@
 
 use crate::ffi::{self, AccessWords, HartWords, StepWords};
 use crate::translation::{Access, Fault, Image, Translation};
-use std::sync::OnceLock;
 
 /// What an event came to.
 #[derive(Clone, Copy, Debug, PartialEq, Eq)]
@@ -38,9 +37,6 @@ pub struct Accessed {
 pub struct Hart {
     words: HartWords,
 }
-
-/// sstatus is a view of mstatus and hgeip a constant: neither is stored.
-const NOT_STORED: [u64; 2] = [0x100, 0xe12];
 
 impl Hart {
     /// A hart in a mode, each register with what a write of 0 leaves. Any numbers are taken; see [`Hart::passes`].
@@ -87,7 +83,7 @@ impl Hart {
 
     /// The numbers of the stored registers, rising, each with what it holds.
     pub fn registers(&self) -> impl Iterator<Item = (u64, u64)> + '_ {
-        stored().iter().map(|&(number, i)| (number, self.words[i]))
+        (0..ffi::KEPT).map(|place| (ffi::number(place), self.words[3 + place]))
     }
 
     /// Check 2: whether the model takes the hart.
@@ -194,15 +190,15 @@ impl Hart {
     }
 
     fn stepped(&mut self, result: StepWords) -> Outcome {
-        self.words.copy_from_slice(&result[..32]);
-        outcome(result[32], result[33])
+        self.words.copy_from_slice(&result[..ffi::HART]);
+        outcome(result[ffi::HART], result[ffi::HART + 1])
     }
 
     fn accessed(&mut self, result: AccessWords) -> Accessed {
-        self.words.copy_from_slice(&result[..32]);
+        self.words.copy_from_slice(&result[..ffi::HART]);
         Accessed {
-            outcome: outcome(result[32], result[33]),
-            value: result[34],
+            outcome: outcome(result[ffi::HART], result[ffi::HART + 1]),
+            value: result[ffi::STEP],
         }
     }
 }
@@ -215,19 +211,7 @@ fn outcome(kind: u64, number: u64) -> Outcome {
     }
 }
 
-/// The stored registers in rising order: the number of each, and where it stands among a hart's words.
-fn stored() -> &'static [(u64, usize)] {
-    static STORED: OnceLock<Vec<(u64, usize)>> = OnceLock::new();
-    STORED.get_or_init(|| {
-        (0..ffi::REGISTERS)
-            .map(|place| (ffi::number(place), 3 + place))
-            .filter(|(number, _)| !NOT_STORED.contains(number))
-            .collect()
-    })
-}
-
 /// Where a stored register stands among a hart's words.
 fn index(number: u64) -> Option<usize> {
-    let at = stored().binary_search_by_key(&number, |&(number, _)| number);
-    at.ok().map(|at| stored()[at].1)
+    crate::place(number).map(|place| 3 + place)
 }

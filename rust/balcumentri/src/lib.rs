@@ -35,23 +35,24 @@ pub use translation::{Access, Answer, Fault, Image, Kind, Read, Translation};
 #[doc = include_str!("../../../README.md")]
 struct Readme;
 
-/// The place of the register with a number in the table, 0 to 28.
+/// The place of the register that a hart keeps with a number, 0 to 26.
 ///
 /// ```
-/// assert_eq!(balcumentri::place(0x300), Some(14));
+/// assert_eq!(balcumentri::place(0x300), Some(13));
 /// assert_eq!(balcumentri::place(0x301), None);
+/// assert_eq!(balcumentri::place(0x100), None); // sstatus is a view of mstatus
 /// ```
 pub fn place(number: u64) -> Option<usize> {
     let place = ffi::place(number);
-    (place < ffi::REGISTERS).then_some(place)
+    (place < ffi::KEPT).then_some(place)
 }
 
-/// The number of the register at a place of the table.
+/// The number of the register that a hart keeps at a place.
 ///
 /// ```
-/// assert_eq!(balcumentri::number(14), Some(0x300));
-/// assert_eq!(balcumentri::number(29), None);
+/// assert_eq!(balcumentri::number(13), Some(0x300));
+/// assert_eq!(balcumentri::number(27), None);
 /// ```
 pub fn number(place: usize) -> Option<u64> {
-    (place < ffi::REGISTERS).then(|| ffi::number(place))
+    (place < ffi::KEPT).then(|| ffi::number(place))
 }

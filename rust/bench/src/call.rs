@@ -4,7 +4,7 @@
 use balcumentri::{Access, Hart, Image, Kind};
 
 /// A hart's words.
-pub type HartWords = [u64; 32];
+pub type HartWords = [u64; 30];
 /// A translation's words.
 pub type TranslationWords = [u64; 67];
 
@@ -26,7 +26,7 @@ extern "C" {
 
 /// A hart's words, as include/balcumentri.h lists them.
 pub fn words(hart: &Hart) -> HartWords {
-    let mut words = [0; 32];
+    let mut words = [0; 30];
     words[..3].copy_from_slice(&[hart.v(), hart.privilege(), hart.pc()]);
     for (place, word) in words[3..].iter_mut().enumerate() {
         let number = balcumentri::number(place);

@@ -41,22 +41,20 @@ impl Default for Translation {
 const VIRTUALIZATION: usize = 0;
 const PRIVILEGE: usize = 1;
 const PC: usize = 2;
-const SSTATUS: usize = 3;
-const STVEC: usize = 4;
-const SEPC: usize = 6;
-const SATP: usize = 9;
-const VSSTATUS: usize = 10;
-const VSTVEC: usize = 11;
-const VSEPC: usize = 13;
-const VSATP: usize = 16;
-const MSTATUS: usize = 17;
-const MEDELEG: usize = 18;
-const MTVEC: usize = 19;
-const MEPC: usize = 21;
-const HSTATUS: usize = 26;
-const HEDELEG: usize = 27;
-const HGATP: usize = 30;
-const HGEIP: usize = 31;
+const STVEC: usize = 3;
+const SEPC: usize = 5;
+const SATP: usize = 8;
+const VSSTATUS: usize = 9;
+const VSTVEC: usize = 10;
+const VSEPC: usize = 12;
+const VSATP: usize = 15;
+const MSTATUS: usize = 16;
+const MEDELEG: usize = 17;
+const MTVEC: usize = 18;
+const MEPC: usize = 20;
+const HSTATUS: usize = 25;
+const HEDELEG: usize = 26;
+const HGATP: usize = 29;
 
 // Privileges.
 const USER: u64 = 0;
@@ -198,7 +196,6 @@ fn passes(hart: &HartWords) -> bool {
     let mprv = mstatus & MPRV != 0 && privilege != MACHINE;
     let mpp_is_2 = (mstatus >> 1) & !mstatus & 1 << MPP_LOW;
     let wrong = hart[PC] & EPC_ZERO
-        | hart[SSTATUS]
         | hart[STVEC] & TVEC_ZERO
         | hart[SEPC] & EPC_ZERO
         | hart[SATP] & MODE_ZERO
@@ -213,8 +210,7 @@ fn passes(hart: &HartWords) -> bool {
         | hart[MEPC] & EPC_ZERO
         | (hart[HSTATUS] & !HSTATUS_STORED ^ HSTATUS_FIXED)
         | hart[HEDELEG] & !HEDELEG_STORED
-        | hart[HGATP] & HGATP_ZERO
-        | hart[HGEIP];
+        | hart[HGATP] & HGATP_ZERO;
     !no_mode & !mprv & (wrong == 0)
 }
 

@@ -165,7 +165,7 @@ fn every_bit_of_every_word_of_a_hart() {
     let (mut refused, mut taken) = (0, 0);
     for (v, privilege) in [(0, 0), (0, 1), (0, 3), (1, 0), (1, 1)] {
         let hart = call::words(&balcumentri::Hart::new(v, privilege, 0));
-        for bit in 0..32 * 64 {
+        for bit in 0..64 * hart.len() {
             let mut hart = hart;
             hart[bit / 64] ^= 1 << (bit % 64);
             if checked(&hart, image, load).answer == Answer::Refused(2) {
@@ -204,7 +204,7 @@ fn images_and_accesses_at_the_limits() {
 }
 
 fn words_of_second(hart: &second::hart::Hart) -> HartWords {
-    let mut words = [0; 32];
+    let mut words = [0; 30];
     words[..3].copy_from_slice(&[hart.v, hart.privilege, hart.pc]);
     for (place, word) in words[3..].iter_mut().enumerate() {
         let number = balcumentri::number(place).unwrap();
