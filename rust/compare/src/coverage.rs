@@ -584,6 +584,26 @@ mod tests {
     }
 
     #[test]
+    fn a_flip_is_one_bit_of_a_hart_that_passes() {
+        let good = Hart::new(0, 3, 0x40);
+        let mut coverage = Coverage::default();
+        let mut note = |hart: &Hart, change: fn(&mut Hart)| {
+            let mut met = *hart;
+            change(&mut met);
+            coverage.note_flip(hart, &met, Meeting::Event);
+        };
+        note(&good, |_| {});
+        note(&good, |hart| hart.pc ^= 3);
+        note(&good, |hart| (hart.v, hart.hgatp) = (1, 1));
+        note(&Hart::new(0, 2, 0), |hart| hart.pc ^= 1);
+        note(&good, |hart| hart.pc ^= 1 << 63);
+        note(&good, |hart| hart.hgatp ^= 4);
+        assert_eq!(coverage.flipped(Mode::M, Meeting::Event), 2);
+        let flips = [(2, 63), (29, 2)].map(|(word, bit)| ((Mode::M, Meeting::Event, word, bit), 1));
+        assert_eq!(coverage.flips, BTreeMap::from(flips));
+    }
+
+    #[test]
     fn rules_are_each_named_once() {
         let mut rules = reachable_rules();
         let length = rules.len();

@@ -96,6 +96,8 @@ fn word_of(hart: &mut Hart, word: usize) -> &mut u64 {
         0 => &mut hart.v,
         1 => &mut hart.privilege,
         2 => &mut hart.pc,
-        _ => hart.stored_mut(stored[word - 3]).expect("a stored register"),
+        _ => hart
+            .stored_mut(stored[word - 3])
+            .expect("a stored register"),
     }
 }
