@@ -2,8 +2,8 @@
  *
  * Link with target/staticlib/libexports.a, which `rt staticlib exports` makes. The library keeps no state and allocates nothing.
  *
- * A slice is a pointer and the number of its words (or bytes). Its pointer is never null, also where the number is 0, and the
- * slices of one call do not overlap.
+ * A slice is a pointer and the number of its words (or bytes). Where the number is 0 nothing is read or written through the
+ * pointer, which may be null. The slices of one call do not overlap.
  *
  * What a call with slices returns:
  *   BALCUMENTRI_WRITTEN       the result is in out

@@ -5,9 +5,11 @@ use std::io;
 use std::path::Path;
 use std::time::{Duration, Instant};
 
+use second::hart::Mode;
+
 use crate::coverage::Coverage;
 use crate::fuzz::{fuzzed, Corpus};
-use crate::generate::{bad_script, script};
+use crate::generate::{bad_script, flips_script, script};
 use crate::program::{Outcome, Program, Script, Status};
 use crate::shrink::shrink;
 
@@ -51,7 +53,8 @@ pub enum Failure {
     NotRun(String, io::Error),
 }
 
-/// Runs both programs over the scripts of a seed. Ends at the first difference.
+/// Runs both programs over the scripts of a seed: at least so many events, and then those that flip every bit of a hart.
+/// Ends at the first difference.
 pub fn compare(
     first: &dyn Program,
     second: &dyn Program,
@@ -62,19 +65,34 @@ pub fn compare(
     let mut place = 0;
     while coverage.events < options.events {
         let events = (options.events - coverage.events).min(SCRIPT_EVENTS);
-        let (script, reached) = script(options.seed, place, events, folder);
-        let output = compare_on(first, second, place, &script)?;
-        coverage.add(&reached);
-        coverage.read_output(&output);
+        let made = script(options.seed, place, events, folder);
+        compare_and_count(first, second, place, made, &mut coverage)?;
         for bad in 0..BAD_SCRIPTS {
-            let (script, reached) = bad_script(options.seed, place * BAD_SCRIPTS + bad, folder);
-            let output = compare_on(first, second, place, &script)?;
-            coverage.add(&reached);
-            coverage.read_output(&output);
+            let made = bad_script(options.seed, place * BAD_SCRIPTS + bad, folder);
+            compare_and_count(first, second, place, made, &mut coverage)?;
         }
         place += 1;
     }
+    for mode in Mode::ALL {
+        let made = flips_script(options.seed, mode, folder);
+        compare_and_count(first, second, place, made, &mut coverage)?;
+        place += 1;
+    }
     Ok(coverage)
+}
+
+/// Runs both programs on one script; where they agree, what it reaches is counted.
+fn compare_and_count(
+    first: &dyn Program,
+    second: &dyn Program,
+    place: u64,
+    (script, reached): (Script, Coverage),
+    coverage: &mut Coverage,
+) -> Result<(), Failure> {
+    let output = compare_on(first, second, place, &script)?;
+    coverage.add(&reached);
+    coverage.read_output(&output);
+    Ok(())
 }
 
 /// How the scripts of a fuzzing run ended.

@@ -43,6 +43,36 @@ pub const CAUSES: [u64; 19] = [
 /// The causes that a translation can answer.
 const FAULT_CAUSES: [u64; 11] = [1, 4, 5, 6, 7, 12, 13, 15, 20, 21, 23];
 
+/// What meets a hart with a flipped bit.
+#[derive(Clone, Copy, Debug, PartialEq, Eq, PartialOrd, Ord)]
+pub enum Meeting {
+    /// A translation.
+    Translation,
+    /// Another event.
+    Event,
+}
+
+/// One bit of a hart that passes check 2 flipped: the mode of that hart, what met it, the word and the bit.
+pub type Flip = (Mode, Meeting, usize, u32);
+
+/// The words of a hart: V, privilege, pc and the stored registers.
+pub fn words(hart: &Hart) -> Vec<u64> {
+    let stored = ROWS.iter().filter_map(|row| hart.stored(row.number));
+    [hart.v, hart.privilege, hart.pc]
+        .into_iter()
+        .chain(stored)
+        .collect()
+}
+
+/// The word and the bit in which two harts differ, if it is the only one.
+fn flipped_bit(one: &Hart, other: &Hart) -> Option<(usize, u32)> {
+    let (one, other) = (words(one), words(other));
+    let mut changes = one.iter().zip(&other).map(|(a, b)| a ^ b).enumerate();
+    let (word, change) = changes.find(|(_, change)| *change != 0)?;
+    let alone = change.is_power_of_two() && changes.all(|(_, change)| change == 0);
+    alone.then_some((word, change.trailing_zeros()))
+}
+
 /// Counts of what was reached.
 #[derive(Clone, Debug, Default, PartialEq, Eq)]
 pub struct Coverage {
@@ -62,6 +92,8 @@ pub struct Coverage {
     pub translations: BTreeMap<Mode, u64>,
     /// Refusals by event word and number.
     pub refused_words: BTreeMap<(&'static str, u64), u64>,
+    /// Single flipped bits.
+    pub flips: BTreeMap<Flip, u64>,
     /// From the outputs: `refused N`.
     pub refusals: BTreeMap<u64, u64>,
     /// From the outputs: `fault CAUSE`.
@@ -171,6 +203,20 @@ impl Coverage {
         }
     }
 
+    /// Notes that a hart one bit away from a hart that passes was met.
+    pub fn note_flip(&mut self, passing: &Hart, met: &Hart, meeting: Meeting) {
+        let mode = passing.checked_mode();
+        if let (Some(mode), Some((word, bit))) = (mode, flipped_bit(passing, met)) {
+            count(&mut self.flips, (mode, meeting, word, bit));
+        }
+    }
+
+    /// How many bits of a hart in this mode were flipped and met.
+    fn flipped(&self, mode: Mode, meeting: Meeting) -> usize {
+        let all = (mode, meeting, 0, 0)..=(mode, meeting, usize::MAX, u32::MAX);
+        self.flips.range(all).count()
+    }
+
     /// Counts what a program wrote.
     pub fn read_output(&mut self, output: &[u8]) {
         self.scripts += 1;
@@ -219,6 +265,7 @@ impl Coverage {
         add(&mut self.registers, &other.registers);
         add(&mut self.translations, &other.translations);
         add(&mut self.refused_words, &other.refused_words);
+        add(&mut self.flips, &other.flips);
         add(&mut self.refusals, &other.refusals);
         add(&mut self.faults, &other.faults);
         self.addresses += other.addresses;
@@ -285,6 +332,12 @@ impl Coverage {
             if !self.translations.contains_key(&mode) {
                 missing.push(format!("a translation in {mode:?}"));
             }
+            for meeting in [Meeting::Translation, Meeting::Event] {
+                let short = hart_bits() - self.flipped(mode, meeting);
+                if short > 0 {
+                    missing.push(format!("{short} flipped bits in {mode:?} by {meeting:?}"));
+                }
+            }
         }
         if self.bad_lines == 0 {
             missing.push("a bad line".to_string());
@@ -335,6 +388,12 @@ impl Coverage {
             "\nregisters by mode: {} of {} reached",
             self.registers.len(),
             ROWS.len() * Mode::ALL.len()
+        );
+        let _ = writeln!(
+            text,
+            "flipped bits of a hart, by mode, with a translation and with another event: {} of {}",
+            self.flips.len(),
+            2 * hart_bits() * Mode::ALL.len()
         );
     }
 
@@ -392,6 +451,11 @@ impl Coverage {
         }
         text.push('\n');
     }
+}
+
+/// How many bits a hart has.
+fn hart_bits() -> usize {
+    64 * words(&Hart::new(0, 3, 0)).len()
 }
 
 /// Where a cause can be delivered to: medeleg has no bit 11, hedeleg no bit 9, 10, 11, 20 to 23; 9 and 11 come with V=0.
@@ -517,6 +581,26 @@ mod tests {
             );
         }
         assert!(missing.len() > 300);
+    }
+
+    #[test]
+    fn a_flip_is_one_bit_of_a_hart_that_passes() {
+        let good = Hart::new(0, 3, 0x40);
+        let mut coverage = Coverage::default();
+        let mut note = |hart: &Hart, change: fn(&mut Hart)| {
+            let mut met = *hart;
+            change(&mut met);
+            coverage.note_flip(hart, &met, Meeting::Event);
+        };
+        note(&good, |_| {});
+        note(&good, |hart| hart.pc ^= 3);
+        note(&good, |hart| (hart.v, hart.hgatp) = (1, 1));
+        note(&Hart::new(0, 2, 0), |hart| hart.pc ^= 1);
+        note(&good, |hart| hart.pc ^= 1 << 63);
+        note(&good, |hart| hart.hgatp ^= 4);
+        assert_eq!(coverage.flipped(Mode::M, Meeting::Event), 2);
+        let flips = [(2, 63), (29, 2)].map(|(word, bit)| ((Mode::M, Meeting::Event, word, bit), 1));
+        assert_eq!(coverage.flips, BTreeMap::from(flips));
     }
 
     #[test]

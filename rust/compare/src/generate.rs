@@ -2,9 +2,11 @@
 
 use std::path::Path;
 
+use second::hart::Mode;
+
 use crate::coverage::Coverage;
 use crate::program::Script;
-use crate::scenes::{bad, edges, journeys, refusals, registers, traps, walks};
+use crate::scenes::{bad, edges, flips, journeys, refusals, registers, traps, walks};
 use crate::scribe::Scribe;
 
 /// The seed of a script: every script of a run has its own.
@@ -16,14 +18,20 @@ fn script_seed(seed: u64, place: u64) -> u64 {
 /// With it comes what it reaches.
 pub fn script(seed: u64, place: u64, events: u64, folder: &Path) -> (Script, Coverage) {
     let mut scribe = Scribe::new(script_seed(seed, place), folder.to_path_buf());
-    let mut sweep = Sweep::new(place);
-    sweep.systematic(&mut scribe);
+    Sweep::new(place).systematic(&mut scribe);
     while scribe.coverage.events < events {
-        scene(&mut scribe, &mut sweep);
+        scene(&mut scribe);
     }
     if scribe.rng.chance(50) {
         bad::end_badly(&mut scribe);
     }
+    finished(scribe)
+}
+
+/// A script in which every single bit of a hart in this mode is flipped.
+pub fn flips_script(seed: u64, mode: Mode, folder: &Path) -> (Script, Coverage) {
+    let mut scribe = Scribe::new(script_seed(seed, !(mode as u64)), folder.to_path_buf());
+    flips::flips(&mut scribe, mode);
     finished(scribe)
 }
 
@@ -63,7 +71,6 @@ fn finished(mut scribe: Scribe) -> (Script, Coverage) {
 
 /// How far the systematic scenes have come. Every script goes on where the one before it in the run stops.
 struct Sweep {
-    flip: u64,
     number: u64,
     register: u64,
 }
@@ -71,7 +78,6 @@ struct Sweep {
 impl Sweep {
     fn new(place: u64) -> Sweep {
         Sweep {
-            flip: place * 32 * 3,
             number: place * 40 * 2,
             register: place * 20 * 2,
         }
@@ -83,14 +89,6 @@ impl Sweep {
             self.numbers(scribe);
             self.registers(scribe);
         }
-        for _ in 0..3 {
-            self.flips(scribe);
-        }
-    }
-
-    fn flips(&mut self, scribe: &mut Scribe) {
-        refusals::flips(scribe, self.flip);
-        self.flip += 32;
     }
 
     fn numbers(&mut self, scribe: &mut Scribe) {
@@ -105,8 +103,8 @@ impl Sweep {
 }
 
 /// One scene. Half of all events are translations through tables.
-fn scene(scribe: &mut Scribe, sweep: &mut Sweep) {
-    match scribe.rng.below(100) {
+fn scene(scribe: &mut Scribe) {
+    match scribe.rng.below(98) {
         0..=29 => walks::walks(scribe),
         30..=44 => registers::accesses(scribe),
         45..=49 => registers::write_rules(scribe),
@@ -118,9 +116,8 @@ fn scene(scribe: &mut Scribe, sweep: &mut Sweep) {
         90 => refusals::mprv_everywhere(scribe),
         91..=93 => refusals::fields(scribe),
         94..=96 => edges::edges(scribe),
-        97 => edges::files(scribe),
-        98 if scribe.rng.chance(25) => edges::large_images(scribe),
-        _ => sweep.flips(scribe),
+        _ if scribe.rng.chance(20) => edges::large_images(scribe),
+        _ => edges::files(scribe),
     }
 }
 

@@ -2,6 +2,7 @@
 
 pub mod bad;
 pub mod edges;
+pub mod flips;
 pub mod journeys;
 pub mod refusals;
 pub mod registers;

@@ -4,6 +4,7 @@
 use std::io;
 
 use compare::comparing::{compare, Difference, Failure, Options, FULL_RUN};
+use compare::coverage::Meeting;
 use compare::program::{model, Folder, InProcess, Outcome, Perform, Program, Script, Status};
 use second::bits::{bit, with_bit};
 use second::hart::Mode;
@@ -385,6 +386,21 @@ fn a_difference_is_told_with_its_script_and_both_outputs() {
 }
 
 #[test]
+fn a_copy_that_overlooks_one_bit() {
+    // No scene but the flips has a hart that passes but for this bit.
+    fn overlooks(session: &mut Session, line: &Line) -> Result<Answer, Bad> {
+        let mut hart = session.hart;
+        hart.privilege &= !(1 << 57);
+        if hart.checked_mode().is_some() && *line != Line::Show {
+            session.hart = hart;
+        }
+        session.perform(line)
+    }
+    let difference = caught(overlooks, 2);
+    assert_eq!(difference.second.output, b"refused 2\n");
+}
+
+#[test]
 fn a_run_reaches_everything() {
     let folder = Folder::new().unwrap();
     let program = InProcess {
@@ -396,10 +412,13 @@ fn a_run_reaches_everything() {
         events: 60_000,
         seed: 7,
     };
-    let Ok(coverage) = compare(&program, &program, &options, folder.path()) else {
+    let Ok(mut coverage) = compare(&program, &program, &options, folder.path()) else {
         panic!("the model differs from itself");
     };
     assert_eq!(coverage.missing(), Vec::<String>::new());
+    assert_eq!(coverage.flips.len(), 5 * 2 * 30 * 64);
+    coverage.flips.remove(&(Mode::Vs, Meeting::Event, 2, 63));
+    assert_eq!(coverage.missing(), ["1 flipped bits in Vs by Event"]);
     assert!(coverage.events >= 60_000);
     // Most translations get past the checks, and deep walks are common.
     let translations: u64 = coverage.translations.values().sum();

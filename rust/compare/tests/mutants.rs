@@ -1,5 +1,6 @@
 //! Altered copies of the second program's source, one small change each, compiled and compared with the unaltered library:
-//! every one must be caught within a full run. This takes minutes, so it runs only when asked for:
+//! every one must be caught within a full run, and must change an answer of an example where it isn't about the script language.
+//! This takes minutes, so it runs only when asked for:
 //!
 //! `cargo test --release -p compare --test mutants -- --ignored --nocapture`
 
@@ -174,6 +175,40 @@ const MUTANTS: &[Mutant] = &[
     Mutant("image.rs", "u64::from_le_bytes(bytes)", "u64::from_be_bytes(bytes)"),
     Mutant("script.rs", "Some(byte) if is_blank(*byte) => trimmed(after),", "Some(byte) if is_blank(*byte) => next_word(after).0,"),
     Mutant("script.rs", "buffer.strip_suffix(b\"\\n\").unwrap_or(&buffer)", "match buffer.strip_suffix(b\"\\n\") { Some(line) => line, None => continue }"),
+    // Misreadings of docs/MUTATIONS.md, "Misreadings that had changed no example".
+    Mutant("walk.rs", "        if self.mode.v() {\n            bit(self.hart.vsstatus, SUM)", "        if self.hart.v == 1 {\n            bit(self.hart.vsstatus, SUM)"),
+    Mutant("walk.rs", "        if self.mode.v() {\n            bit(self.hart.vsstatus, SUM)", "        if self.mode.v() {\n            (self.hart.v == 0 && bit(self.hart.mstatus, SUM)) || bit(self.hart.vsstatus, SUM)"),
+    Mutant("walk.rs", "        if self.mode.v() {\n            bit(self.hart.vsstatus, SUM)", "        if self.mode.v() || self.hart.privilege == 3 {\n            bit(self.hart.vsstatus, SUM)"),
+    Mutant("walk.rs", "let guest = self.mode.v() && bit(self.hart.vsstatus, MXR);", "let guest = self.hart.v == 1 && bit(self.hart.vsstatus, MXR);"),
+    Mutant("walk.rs", "guest || bit(self.hart.mstatus, MXR)", "guest || (bit(self.hart.mstatus, MXR) && !(self.mode.v() && self.hart.v == 0))"),
+    Mutant("walk.rs", "let guest = self.mode.v() && bit(self.hart.vsstatus, MXR);", "let guest = (self.mode.v() || self.hart.privilege == 3) && bit(self.hart.vsstatus, MXR);"),
+    Mutant("access.rs", "let new = after_write(row, old, action.combined(old));", "let new = if row.number == 0x280 && hart.v == 0 { let value = action.combined(old); if value >> 60 == 0 || value >> 60 == 8 { value } else { (old & (15 << 60)) | (value & !(15 << 60)) } } else { after_write(row, old, action.combined(old)) };"),
+    Mutant("access.rs", "let new = after_write(row, old, action.combined(old));", "let new = if row.number == 0x280 && hart.v == 0 && ![0, 8].contains(&(action.combined(old) >> 60)) { 0 } else { after_write(row, old, action.combined(old)) };"),
+    Mutant("access.rs", "let new = after_write(row, old, action.combined(old));", "let new = if row.number == 0x280 && hart.v == 1 { let value = action.combined(old); if value >> 60 == 0 || value >> 60 == 8 { value } else { (old & (15 << 60)) | (value & !(15 << 60)) } } else { after_write(row, old, action.combined(old)) };"),
+    Mutant("access.rs", "let new = after_write(row, old, action.combined(old));", "let new = if row.number == 0x280 && hart.v == 1 && ![0, 8].contains(&(action.combined(old) >> 60)) { 0 } else { after_write(row, old, action.combined(old)) };"),
+    Mutant("trap.rs", "    after.htval = trap.second;", "    if !matches!(trap.cause, 8..=11) { after.htval = trap.second; }"),
+    Mutant("trap.rs", "    after.htinst = trap.word;", "    if !matches!(trap.cause, 8..=11) { after.htinst = trap.word; }"),
+    Mutant("trap.rs", "    after.mtval2 = trap.second;", "    if !matches!(trap.cause, 8..=11) { after.mtval2 = trap.second; }"),
+    Mutant("trap.rs", "    after.mtinst = trap.word;", "    if !matches!(trap.cause, 8..=11) { after.mtinst = trap.word; }"),
+    Mutant("trap.rs", "    after.stval = trap.value;", "    if !matches!(trap.cause, 8..=11) { after.stval = trap.value; }"),
+    Mutant("trap.rs", "    after.mtval = trap.value;", "    if !matches!(trap.cause, 8..=11) { after.mtval = trap.value; }"),
+    Mutant("waits.rs", "fn hfence_vvma_cause(_hart: &Hart, mode: Mode) -> Option<u64> {\n    match mode {", "fn hfence_vvma_cause(_hart: &Hart, mode: Mode) -> Option<u64> {\n    match mode {\n        Mode::Hs if bit(_hart.mstatus, TVM) => Some(ILLEGAL_INSTRUCTION),"),
+    Mutant("walk.rs", "let width = if level == TOP_LEVEL { 11 }", "let width = if level == TOP_LEVEL || level == 0 { 11 }"),
+    Mutant("walk.rs", "self.fault(21, second, 0x3000, why)", "self.fault(21, second, if rule == Rule::HighBits { 0 } else { 0x3000 }, why)"),
+    Mutant("walk.rs", "self.fault(21, second, 0x3000, why)", "self.fault(if rule == Rule::HighBits { self.access.kind.guest_page_fault() } else { 21 }, second, 0x3000, why)"),
+    Mutant("trap.rs", "matches!(trap.cause, 8..=11) && trap.value != 0", "matches!(trap.cause, 2 | 8..=11) && trap.value != 0"),
+    Mutant("trap.rs", "matches!(trap.cause, 8..=11) && trap.value != 0", "matches!(trap.cause, 22 | 8..=11) && trap.value != 0"),
+    Mutant("walk.rs", "            right_of_kind(entry, kind, mxr)?;\n        }\n        Ok(decoded)\n    }\n}\n", "            if !(kind == Kind::Fetch && bit(entry, PTE_R)) { right_of_kind(entry, kind, mxr)?; }\n        }\n        Ok(decoded)\n    }\n}\n"),
+    Mutant("walk.rs", "        let mut table = root_table(atp);", "        let mut table = root_table(atp) & if self.mode.v() && atp_mode(self.hart.hgatp) != BARE { low_ones(41) } else { !0 };"),
+    Mutant("walk.rs", "                    level = next;\n                    table = below;\n                }\n                Ok(Entry::Leaf { ppn }) => return Ok(leaf_result(ppn, address, level)),", "                    level = next;\n                    table = below & if self.mode.v() && atp_mode(self.hart.hgatp) != BARE { low_ones(41) } else { !0 };\n                }\n                Ok(Entry::Leaf { ppn }) => return Ok(leaf_result(ppn, address, level)),"),
+    Mutant("walk.rs", "return Ok(leaf_result(ppn, address, level)),", "return Ok(leaf_result(ppn, address, level) & if self.mode.v() && atp_mode(self.hart.hgatp) != BARE { low_ones(41) } else { !0 }),"),
+    Mutant("walk.rs", "if !sv39x4_well_formed(guest) {", "if purpose == Purpose::Access && !sv39x4_well_formed(guest) {"),
+    Mutant("walk.rs", "if !sv39x4_well_formed(guest) {", "if atp_mode(self.hart.vsatp) == BARE && !sv39x4_well_formed(guest) {"),
+    Mutant("walk.rs", "            accessed_and_dirty(entry, kind == Kind::Store)?;\n            if !bit(entry, PTE_U)", "            if purpose == Purpose::Access { accessed_and_dirty(entry, kind == Kind::Store)?; }\n            if !bit(entry, PTE_U)"),
+    Mutant("walk.rs", "            accessed_and_dirty(entry, kind == Kind::Store)?;\n            if !bit(entry, PTE_U)", "            if purpose != Purpose::Access { accessed_and_dirty(entry, kind == Kind::Store)?; } else if kind == Kind::Store && !bit(entry, PTE_D) { return Err(Rule::NotDirty); }\n            if !bit(entry, PTE_U)"),
+    Mutant("walk.rs", "return Ok(leaf_result(ppn, address, level)),", "return Ok(leaf_result(ppn, address, level.min(1))),"),
+    Mutant("walk.rs", "leaf_result(ppn, guest.0, level)", "leaf_result(ppn, guest.0, level.min(1))"),
+    Mutant("walk.rs", "leaf_result(ppn, guest.0, level)", "leaf_result(ppn, guest.0, if level == 1 { 0 } else { level })"),
 ];
 
 fn source() -> PathBuf {
@@ -236,6 +271,19 @@ fn build(mutant: &Mutant, folder: &Path) -> OsString {
     folder.join("mutant").into_os_string()
 }
 
+/// Whether a program answers some example otherwise than its `.out` file.
+fn changes_an_example(program: &OsString) -> bool {
+    let examples = Path::new(env!("CARGO_MANIFEST_DIR")).join("../../examples");
+    let mut scripts = std::fs::read_dir(examples).unwrap();
+    scripts.any(|entry| {
+        let script = entry.unwrap().path();
+        script.extension().is_some_and(|end| end == "replay") && {
+            let answers = Command::new(program).arg(&script).output().unwrap().stdout;
+            answers != std::fs::read(script.with_extension("out")).unwrap()
+        }
+    })
+}
+
 #[test]
 #[ignore = "takes minutes"]
 fn every_mutant_is_caught() {
@@ -254,6 +302,9 @@ fn every_mutant_is_caught() {
             seed: 1000 + place as u64,
         };
         let Mutant(file, from, to) = mutant;
+        if *file != "script.rs" && !changes_an_example(&program) {
+            missed.push(format!("{file}: {from:?} -> {to:?} changes no example"));
+        }
         match compare(&first, &second, &options, folder.path()) {
             Err(Failure::Different(difference)) => println!(
                 "{file}: {from:?} -> {to:?}: script {}, {} lines",

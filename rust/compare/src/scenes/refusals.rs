@@ -169,43 +169,6 @@ fn translation(scribe: &mut Scribe, bad: bool) -> String {
     }
 }
 
-/// Each bit of each stored register flipped in turn, and an event with each.
-pub fn flips(scribe: &mut Scribe, start: u64) {
-    let stored: Vec<u64> = ROWS
-        .iter()
-        .map(|row| row.number)
-        .filter(|number| scribe.session.hart.stored(*number).is_some())
-        .collect();
-    let hart = {
-        let mode = scribe.mode();
-        let pc = scribe.rng.below(64) * 4;
-        Hart::new(u64::from(mode.v()), mode.privilege(), pc)
-    };
-    scribe.whole_hart(&hart);
-    for step in 0..32 {
-        let place = start + step;
-        let number = stored[((place / 64) % stored.len() as u64) as usize];
-        let old = hart.stored(number).unwrap_or(0);
-        scribe.reg(number, old ^ (1 << (place % 64)));
-        let before = scribe.session.hart;
-        let word = scribe.rng.pick(&[
-            "wfi",
-            "ebreak",
-            "read 340",
-            "load 0 1",
-            "trap 3 0 0 0 1",
-            "sret",
-        ]);
-        scribe.line(word);
-        if scribe.session.hart == before {
-            scribe.reg(number, old);
-        } else {
-            scribe.show_sometimes(20);
-            scribe.whole_hart(&hart);
-        }
-    }
-}
-
 /// The fields that can't hold every value: the register, the lowest bit, the width.
 const FIELDS: [(u64, u32, u32); 16] = [
     (registers::MSTATUS, 32, 2),

@@ -156,7 +156,7 @@ fn choose_access(scribe: &mut Scribe, tables: &Tables, regime: Regime) -> Access
 }
 
 /// One of the pages, mostly one whose leaf suits the effective privilege.
-fn choose_page(scribe: &mut Scribe, pages: &[Mapping]) -> u64 {
+pub fn choose_page(scribe: &mut Scribe, pages: &[Mapping]) -> u64 {
     if pages.is_empty() {
         return scribe.rng.bits() & !0xfff;
     }
@@ -175,14 +175,19 @@ fn choose_page(scribe: &mut Scribe, pages: &[Mapping]) -> u64 {
     chosen.address
 }
 
-/// The line of an access, and sometimes the delivery of its fault.
-fn perform(scribe: &mut Scribe, access: &Access) {
+/// The line of an access.
+pub fn text(access: &Access) -> String {
     let word = match access.kind {
         Kind::Fetch => "fetch",
         Kind::Load => "load",
         Kind::Store => "store",
     };
-    let answer = scribe.line(&format!("{word} {:x} {:x}", access.address, access.width));
+    format!("{word} {:x} {:x}", access.address, access.width)
+}
+
+/// An access, and sometimes the delivery of its fault.
+fn perform(scribe: &mut Scribe, access: &Access) {
+    let answer = scribe.line(&text(access));
     let Answer::Translation(translation) = answer else {
         return;
     };

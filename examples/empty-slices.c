@@ -1,0 +1,81 @@
+/* Empty slices as C has them, a null pointer and the number 0: as an image they are taken, as words they have a wrong length.
+ * Prints what each call returns without a hart, without room for its result, and without both; then accesses to an empty image.
+ *
+ *     rt staticlib exports
+ *     cc -std=c99 -Iinclude examples/empty-slices.c target/staticlib/libexports.a -o empty-slices
+ */
+#include <inttypes.h>
+#include <stdio.h>
+#include <string.h>
+
+#include "balcumentri.h"
+
+static uint64_t hart[BALCUMENTRI_HART_WORDS];
+static uint64_t out[BALCUMENTRI_TRANSLATION_WORDS];
+
+/* A call by its name, its result's words, and the arguments that stand between the two slices, each with its comma. */
+#define TRY(name, words, ...)                                                                                       \
+    printf(#name " %" PRIu64 " %" PRIu64 " %" PRIu64 "\n", balcumentri_##name(NULL, 0, __VA_ARGS__ out, words),     \
+           balcumentri_##name(hart, BALCUMENTRI_HART_WORDS, __VA_ARGS__ NULL, 0),                                   \
+           balcumentri_##name(NULL, 0, __VA_ARGS__ NULL, 0))
+
+/* The hart after a write to a register. */
+static void write_register(uint64_t number, uint64_t value)
+{
+    uint64_t next[BALCUMENTRI_ACCESS_WORDS];
+
+    balcumentri_write(hart, BALCUMENTRI_HART_WORDS, number, value, next, BALCUMENTRI_ACCESS_WORDS);
+    memcpy(hart, next, sizeof hart);
+}
+
+/* An access over no bytes. */
+static void access_nothing(const char *name, uint64_t kind)
+{
+    uint64_t returned = balcumentri_translate(hart, BALCUMENTRI_HART_WORDS, 0x1000, NULL, 0, kind, 0x1000, 4, out,
+                                              BALCUMENTRI_TRANSLATION_WORDS);
+    printf("%s returned %" PRIu64 ": %s %" PRIu64 ", %" PRIu64 " reads\n", name, returned,
+           out[0] == BALCUMENTRI_FAULT ? "fault" : "no fault", out[1], out[6]);
+}
+
+static void access_in(const char *mode)
+{
+    printf("in %s:\n", mode);
+    access_nothing("fetch", BALCUMENTRI_FETCH);
+    access_nothing("load", BALCUMENTRI_LOAD);
+    access_nothing("store", BALCUMENTRI_STORE);
+}
+
+int main(void)
+{
+    printf("reset %" PRIu64 "\n", balcumentri_reset(0, 3, 0, NULL, 0));
+    balcumentri_reset(0, 3, 0, hart, BALCUMENTRI_HART_WORDS);
+
+    TRY(passes, 1, );
+    TRY(translate, BALCUMENTRI_TRANSLATION_WORDS, 0x1000, NULL, 0, BALCUMENTRI_LOAD, 0x1000, 4, );
+    TRY(read, BALCUMENTRI_ACCESS_WORDS, 0x300, );
+    TRY(write, BALCUMENTRI_ACCESS_WORDS, 0x300, 0, );
+    TRY(set, BALCUMENTRI_ACCESS_WORDS, 0x300, 0, true, );
+    TRY(clear, BALCUMENTRI_ACCESS_WORDS, 0x300, 0, true, );
+    TRY(trap, BALCUMENTRI_STEP_WORDS, 3, 0, 0, 0, false, );
+    TRY(ecall, BALCUMENTRI_STEP_WORDS, );
+    TRY(ebreak, BALCUMENTRI_STEP_WORDS, );
+    TRY(mret, BALCUMENTRI_STEP_WORDS, );
+    TRY(sret, BALCUMENTRI_STEP_WORDS, );
+    TRY(wfi, BALCUMENTRI_STEP_WORDS, );
+    TRY(sfence_vma, BALCUMENTRI_STEP_WORDS, );
+    TRY(hfence_vvma, BALCUMENTRI_STEP_WORDS, );
+    TRY(hfence_gvma, BALCUMENTRI_STEP_WORDS, );
+
+    uint64_t written = 0;
+    for (size_t i = 0; i < BALCUMENTRI_TRANSLATION_WORDS; i++)
+        written |= out[i];
+    printf("written %" PRIu64 "\n", written);
+
+    access_in("M");
+    write_register(0x280, UINT64_C(0x8000000000000001)); /* vsatp */
+    write_register(0x680, UINT64_C(0x8000000000000000)); /* hgatp */
+    hart[0] = 1;                                         /* V */
+    hart[1] = 1;                                         /* privilege: VS */
+    access_in("VS");
+    return 0;
+}
