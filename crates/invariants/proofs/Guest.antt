@@ -26,11 +26,12 @@ use Rattle.hart.specs.Return.{writesVSRET, returnedVS}
 use Rattle.csr.specs.Access.{isSatp, hostLacks, verdict, combined}
 use Rattle.hart.specs.Access.{seen, written, accessRow, accessFound, access}
 use Rattle.invariants.specs.Events.{Event, run}
+use Rattle.invariants.specs.Learns.{guest}
 use Rattle.invariants.proofs.Mode.{Mode, U, HS, M, VU, VS, passing}
 use Rattle.invariants.proofs.Writes.{apart, outside-kept}
 use Rattle.invariants.proofs.Settled.{settled-cases}
 use Rattle.invariants.proofs.Comes.{Allowed, reaches, Comes, refuses, traps, mrets, srets-VS, srets-HS, moves, writes, comes}
-use Rattle.invariants.proofs.Sides.{guest, OnlyIn}
+use Rattle.invariants.proofs.Sides.{OnlyIn}
 
 -- one computed test: a row that is neither M's nor VS's nor H's reaches, with V=1, a VS register
 abbrev test : ℕ → Register → Bool

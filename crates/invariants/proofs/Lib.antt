@@ -6,4 +6,5 @@ pub mod Passing
 pub mod Answers
 pub mod Sides
 pub mod Guest
+pub mod Learns
 pub mod Known

@@ -45,10 +45,10 @@ use Rattle.csr.specs.Access.{isSatp, isHgatp, verdict}
 use Rattle.hart.specs.Access.{written}
 use Rattle.registers.proofs.Straight.{word-legal}
 use Rattle.invariants.specs.Events.{Event, run}
+use Rattle.invariants.specs.Learns.{guest}
 use Rattle.invariants.proofs.Mode.{Mode, Passing, passing, passes-of}
 use Rattle.invariants.proofs.Mode as mode
 use Rattle.invariants.proofs.Writes.{allIn, outside-kept, with-holds}
-use Rattle.invariants.proofs.Sides.{guest}
 use Rattle.invariants.proofs.Comes.{Allowed, reaches, Comes, refuses, traps, mrets, srets-VS, srets-HS, moves, writes, comes}
 
 -- ---- what single registers give and take

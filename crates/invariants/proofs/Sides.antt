@@ -3,13 +3,13 @@ use mathlib.Core.Path.{_≡_, refl, ap}
 use mathlib.Core.Bool.{Bool, true, false, _&&_, _||_, not}
 use mathlib.Core.Logic.{_⊎_, inl, inr}
 use Prim.Native.Nat.{ℕ}
-use lib.Dec.{eqb, leb}
+use lib.Dec.{eqb}
 use lib.ListN.{getD, set}
 use lib.Seq.{getD-set-other}
 use borrow.Author.Tests.{eqb-true}
 use Rattle.bits.specs.Field.{pick, has}
 use Rattle.bits.proofs.Bools.{clash}
-use Rattle.registers.specs.Places.{vsstatus, vsatp, medeleg, hedeleg}
+use Rattle.registers.specs.Places.{medeleg, hedeleg}
 use Rattle.exceptions.specs.declared.Exception.{Exception}
 use Rattle.privilege.specs.Mode.{isM}
 use Rattle.delivery.specs.declared.Target.{Target}
@@ -22,13 +22,11 @@ use Rattle.hart.specs.Deliver.{writesM, writesHS, writesVS, deliveredM, deliver
 use Rattle.hart.specs.Return.{writesMRET, writesHSRET, writesVSRET, returnedM, returnedHS, returnedVS}
 use Rattle.hart.specs.Access.{written}
 use Rattle.invariants.specs.Events.{Event, run}
+use Rattle.invariants.specs.Learns.{guest}
 use Rattle.invariants.proofs.Writes.{apart, outside-kept}
 use Rattle.invariants.proofs.Comes.{Comes, refuses, traps, mrets, srets-VS, srets-HS, moves, writes, comes}
 
--- the VS registers, and all others
-abbrev pub guest : ℕ → Bool
-guest p = leb vsstatus p && leb p vsatp
-
+-- all places but those of the VS registers
 abbrev pub host : ℕ → Bool
 host p = not (guest p)
 

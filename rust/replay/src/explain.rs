@@ -107,7 +107,8 @@ impl Explainer {
 
     /// With V=1 an S number reaches its VS register.
     fn reached(&self, number: u64) -> String {
-        if self.before.v() == 1 && number >> 8 == 1 && balcumentri::place(number + 0x100).is_some() {
+        if self.before.v() == 1 && number >> 8 == 1 && balcumentri::place(number + 0x100).is_some()
+        {
             return format!(", which is {} here", names::register(number + 0x100));
         }
         String::new()

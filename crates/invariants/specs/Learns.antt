@@ -1,0 +1,53 @@
+-- What a guest can learn: what must agree of two harts for an event to come to the same for it.
+use mathlib.Core.Path.{_≡_}
+use mathlib.Core.Bool.{Bool, true, _&&_}
+use Prim.Native.Nat.{ℕ}
+use lib.Dec.{leb}
+use lib.ListN.{length}
+use Rattle.bits.specs.Field.{get}
+use Rattle.registers.specs.Fields.{TW, VTVM, VTW, VTSR}
+use Rattle.registers.specs.Places.{kept, vsstatus, vsatp, mstatus, hstatus, medeleg, hedeleg}
+use Rattle.hart.specs.declared.state.Hart.{Hart}
+use Rattle.hart.specs.declared.event.Step.{Step}
+use Rattle.hart.specs.Hart.{reg, passes}
+
+-- the places of the VS registers
+abbrev pub guest : ℕ → Bool
+guest p = leb vsstatus p && leb p vsatp
+
+-- two harts hold the same in the VS registers
+abbrev pub SameGuest : Hart → Hart → Type 0
+SameGuest h h′ = (p : ℕ) → guest p ≡ true → reg h p ≡ reg h′ p
+
+-- "TW=1 elsewhere gives 2"; "satp with VTVM=1", "VS with VTVM=1", "VS gives 22 if VTW=1", "in VS with VTSR=1"; "medeleg's bit for the
+-- cause", "hedeleg's bit": two harts hold the same in the controls that document 01 names with V=1
+pub record SameControls (h h′ : Hart) : Type 0 where
+  pub tw : get TW (reg h mstatus) ≡ get TW (reg h′ mstatus)
+  pub vtvm : get VTVM (reg h hstatus) ≡ get VTVM (reg h′ hstatus)
+  pub vtw : get VTW (reg h hstatus) ≡ get VTW (reg h′ hstatus)
+  pub vtsr : get VTSR (reg h hstatus) ≡ get VTSR (reg h′ hstatus)
+  pub medeleg : reg h medeleg ≡ reg h′ medeleg
+  pub hedeleg : reg h hedeleg ≡ reg h′ hedeleg
+
+-- a hart that runs a guest, and passes check 2
+pub record Runs (h : Hart) : Type 0 where
+  pub v : h .v ≡ 1
+  pub passing : passes h ≡ true
+  pub size : length (h .regs) ≡ kept
+
+-- two harts that run one guest: they may differ in every other register of the host
+pub record Alike (h h′ : Hart) : Type 0 where
+  pub left : Runs h
+  pub right : Runs h′
+  pub privilege : h .privilege ≡ h′ .privilege
+  pub pc : h .pc ≡ h′ .pc
+  pub guest : SameGuest h h′
+  pub controls : SameControls h h′
+
+-- An event comes to the same for the guest: outcome, mode and VS registers, and pc unless it left the guest (then pc is the host's tvec).
+pub record Same (s s′ : Step) : Type 0 where
+  pub outcome : s .outcome ≡ s′ .outcome
+  pub v : s .hart .v ≡ s′ .hart .v
+  pub privilege : s .hart .privilege ≡ s′ .hart .privilege
+  pub guest : SameGuest (s .hart) (s′ .hart)
+  pub pc : s .hart .v ≡ 1 → s .hart .pc ≡ s′ .hart .pc
