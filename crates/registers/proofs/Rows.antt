@@ -1,5 +1,5 @@
 -- The rule of every place and the view of every register: computed tests, and what they say of each. Assumes nothing.
-use mathlib.Core.Path.{_≡_, refl, subst}
+use mathlib.Core.Path.{_≡_, refl, ap, ap₂, subst, _∙_}
 use mathlib.Core.Bool.{Bool, true, false, _&&_}
 use mathlib.Core.List.{List, [], _∷_}
 use mathlib.Core.Logic.{_↔_}
@@ -9,7 +9,7 @@ use lib.ListN.{getD, take, length, List·getD-map}
 use borrow.Author.Tests.{eqb-true, ltb-true}
 use Rattle.bits.specs.Field.{pick, top, get, put}
 use Rattle.bits.specs.Every.{every}
-use Rattle.bits.proofs.Bools.{and-left, and-right, pick-both}
+use Rattle.bits.proofs.Bools.{and-left, and-right, pick-both, split}
 use Rattle.bits.proofs.Every.{every-any}
 use Rattle.bits.proofs.Tests.{fits, outside}
 use Rattle.registers.specs.Places.{kept, stvec, sscratch, sepc, scause, stval, satp, vsstatus, vstvec, vsscratch, vsepc, vscause, vstval, vsatp, mstatus, medeleg, mtvec, mscratch, mepc, mcause, mtval, mtinst, mtval2, hstatus, hedeleg, htval, htinst, hgatp}
@@ -97,8 +97,15 @@ pub rising : every (λ i (r : Register). ltb (r .number) (at (suc i) .number)) 0
 unfolding every
 rising = refl
 
-abbrev sameView : View → View → Bool
+-- the two are one view
+abbrev pub sameView : View → View → Bool
 sameView v w = eqb (v .home) (w .home) && (eqb (v .shows) (w .shows) && eqb (v .writes) (w .writes))
+
+pub same-view : (v w : View) → sameView v w ≡ true → v ≡ w
+same-view v w t =
+    split (eqb (v .home) (w .home)) _ t (λ a t₁. split (eqb (v .shows) (w .shows)) _ t₁ (λ b c.
+    ap (λ (h : ℕ). record { home = h; shows = v .shows; writes = v .writes }) (eqb-true _ _ a)
+    ∙ ap₂ (λ (s x : ℕ). record { home = w .home; shows = s; writes = x }) (eqb-true _ _ b) (eqb-true _ _ c)))
 
 abbrev bears : ℕ → List Register → View → Bool
 bears n [] v = false

@@ -1,17 +1,16 @@
 -- One constant table of twenty-nine rows, one for each register (document 01), its search, and where each row's bits are kept.
 use mathlib.Core.Bool.{Bool}
 use mathlib.Core.List.{List, [], _∷_, map}
-use Prim.Native.Nat.{ℕ, suc}
+use Prim.Native.Nat.{ℕ, suc, _+_}
 use lib.Dec.{eqb, ltb}
 use lib.ListN.{getD}
 use Rattle.bits.specs.Field.{pick, top}
 use Rattle.registers.specs.Places.{kept}
-use Rattle.registers.specs.Registers.{View, Register, registers}
+use Rattle.registers.specs.Registers.{supervisor, View, Register, registers}
 use Rattle.table.specs.declared.Row.{Row}
 use Rattle.table.specs.declared.Found.{Found}
 use Rattle.table.specs.declared.Found.the-variants.{At, Nothing}
 use Rattle.table.specs.declared.kept.Kept.{Kept}
-use Rattle.table.specs.declared.kept.Pair.{Pair}
 
 -- "number, level, read-only flag and stored-bits mask": what the code's table has of a register
 abbrev pub rowOf : Register → Row
@@ -33,8 +32,14 @@ reached guest r = pick guest (r .twin) (r .view)
 abbrev pub keptOf : View → Kept
 keptOf v = record { home = v .home; shows = v .shows }
 
-abbrev pub pairOf : Register → Pair
-pairOf r = record { own = keptOf (r .view); twin = keptOf (r .twin) }
+-- where the register with a number stands
+abbrev pub rowNumbered : ℕ → List Register → ℕ
+rowNumbered n [] = 0
+rowNumbered n (r ∷ rs) = pick (eqb (r .number) n) 0 (suc (rowNumbered n rs))
+
+-- the row that a number reaches with V=1: for an S number that of the VS register, 100 hex up
+abbrev pub twinRow : Register → ℕ
+twinRow r = rowNumbered (pick (eqb (r .level) supervisor) (r .number + 0x100) (r .number)) registers
 
 -- the numbers of the registers that a hart keeps: those that show every bit of their place
 abbrev pub numbers : List Register → List ℕ

@@ -2,8 +2,8 @@
 ghost use mathlib.Core.Path.{_≡_};
 ghost use mathlib.Core.List.{map};
 ghost use Prim.Native.Nat.{_<_};
-ghost use Rattle.registers.specs.Registers.{count, registers, at};
-ghost use Rattle.table.specs.Table.{keptOf, pairOf, reached, numbers, numberAt};
+ghost use Rattle.registers.specs.Registers.{count, Register, registers, at};
+ghost use Rattle.table.specs.Table.{keptOf, twinRow, reached, numbers, numberAt};
 use crate::ROWS;
 use registers::masks;
 use registers::places;
@@ -14,326 +14,102 @@ pub struct Kept {
     pub shows: u64,
 }
 
-// What a number reaches: its own register, and with V=1 its twin.
-pub struct Pair {
-    pub own: Kept,
-    pub twin: Kept,
-}
+// By row: the place of its bits, and those that it shows. hgeip has none.
+const HOMES: [u8; ROWS] = [
+    places::MSTATUS as u8,
+    places::STVEC as u8,
+    places::SSCRATCH as u8,
+    places::SEPC as u8,
+    places::SCAUSE as u8,
+    places::STVAL as u8,
+    places::SATP as u8,
+    places::VSSTATUS as u8,
+    places::VSTVEC as u8,
+    places::VSSCRATCH as u8,
+    places::VSEPC as u8,
+    places::VSCAUSE as u8,
+    places::VSTVAL as u8,
+    places::VSATP as u8,
+    places::MSTATUS as u8,
+    places::MEDELEG as u8,
+    places::MTVEC as u8,
+    places::MSCRATCH as u8,
+    places::MEPC as u8,
+    places::MCAUSE as u8,
+    places::MTVAL as u8,
+    places::MTINST as u8,
+    places::MTVAL2 as u8,
+    places::HSTATUS as u8,
+    places::HEDELEG as u8,
+    places::HTVAL as u8,
+    places::HTINST as u8,
+    places::HGATP as u8,
+    0,
+];
 
-const PAIRS: [Pair; ROWS] = [
-    // sstatus
-    Pair {
-        own: Kept {
-            home: places::MSTATUS,
-            shows: masks::SSTATUS,
-        },
-        twin: Kept {
-            home: places::VSSTATUS,
-            shows: masks::WORD,
-        },
-    },
-    // stvec
-    Pair {
-        own: Kept {
-            home: places::STVEC,
-            shows: masks::WORD,
-        },
-        twin: Kept {
-            home: places::VSTVEC,
-            shows: masks::WORD,
-        },
-    },
-    // sscratch
-    Pair {
-        own: Kept {
-            home: places::SSCRATCH,
-            shows: masks::WORD,
-        },
-        twin: Kept {
-            home: places::VSSCRATCH,
-            shows: masks::WORD,
-        },
-    },
-    // sepc
-    Pair {
-        own: Kept {
-            home: places::SEPC,
-            shows: masks::WORD,
-        },
-        twin: Kept {
-            home: places::VSEPC,
-            shows: masks::WORD,
-        },
-    },
-    // scause
-    Pair {
-        own: Kept {
-            home: places::SCAUSE,
-            shows: masks::WORD,
-        },
-        twin: Kept {
-            home: places::VSCAUSE,
-            shows: masks::WORD,
-        },
-    },
-    // stval
-    Pair {
-        own: Kept {
-            home: places::STVAL,
-            shows: masks::WORD,
-        },
-        twin: Kept {
-            home: places::VSTVAL,
-            shows: masks::WORD,
-        },
-    },
-    // satp
-    Pair {
-        own: Kept {
-            home: places::SATP,
-            shows: masks::WORD,
-        },
-        twin: Kept {
-            home: places::VSATP,
-            shows: masks::WORD,
-        },
-    },
-    // vsstatus
-    Pair {
-        own: Kept {
-            home: places::VSSTATUS,
-            shows: masks::WORD,
-        },
-        twin: Kept {
-            home: places::VSSTATUS,
-            shows: masks::WORD,
-        },
-    },
-    // vstvec
-    Pair {
-        own: Kept {
-            home: places::VSTVEC,
-            shows: masks::WORD,
-        },
-        twin: Kept {
-            home: places::VSTVEC,
-            shows: masks::WORD,
-        },
-    },
-    // vsscratch
-    Pair {
-        own: Kept {
-            home: places::VSSCRATCH,
-            shows: masks::WORD,
-        },
-        twin: Kept {
-            home: places::VSSCRATCH,
-            shows: masks::WORD,
-        },
-    },
-    // vsepc
-    Pair {
-        own: Kept {
-            home: places::VSEPC,
-            shows: masks::WORD,
-        },
-        twin: Kept {
-            home: places::VSEPC,
-            shows: masks::WORD,
-        },
-    },
-    // vscause
-    Pair {
-        own: Kept {
-            home: places::VSCAUSE,
-            shows: masks::WORD,
-        },
-        twin: Kept {
-            home: places::VSCAUSE,
-            shows: masks::WORD,
-        },
-    },
-    // vstval
-    Pair {
-        own: Kept {
-            home: places::VSTVAL,
-            shows: masks::WORD,
-        },
-        twin: Kept {
-            home: places::VSTVAL,
-            shows: masks::WORD,
-        },
-    },
-    // vsatp
-    Pair {
-        own: Kept {
-            home: places::VSATP,
-            shows: masks::WORD,
-        },
-        twin: Kept {
-            home: places::VSATP,
-            shows: masks::WORD,
-        },
-    },
-    // mstatus
-    Pair {
-        own: Kept {
-            home: places::MSTATUS,
-            shows: masks::WORD,
-        },
-        twin: Kept {
-            home: places::MSTATUS,
-            shows: masks::WORD,
-        },
-    },
-    // medeleg
-    Pair {
-        own: Kept {
-            home: places::MEDELEG,
-            shows: masks::WORD,
-        },
-        twin: Kept {
-            home: places::MEDELEG,
-            shows: masks::WORD,
-        },
-    },
-    // mtvec
-    Pair {
-        own: Kept {
-            home: places::MTVEC,
-            shows: masks::WORD,
-        },
-        twin: Kept {
-            home: places::MTVEC,
-            shows: masks::WORD,
-        },
-    },
-    // mscratch
-    Pair {
-        own: Kept {
-            home: places::MSCRATCH,
-            shows: masks::WORD,
-        },
-        twin: Kept {
-            home: places::MSCRATCH,
-            shows: masks::WORD,
-        },
-    },
-    // mepc
-    Pair {
-        own: Kept {
-            home: places::MEPC,
-            shows: masks::WORD,
-        },
-        twin: Kept {
-            home: places::MEPC,
-            shows: masks::WORD,
-        },
-    },
-    // mcause
-    Pair {
-        own: Kept {
-            home: places::MCAUSE,
-            shows: masks::WORD,
-        },
-        twin: Kept {
-            home: places::MCAUSE,
-            shows: masks::WORD,
-        },
-    },
-    // mtval
-    Pair {
-        own: Kept {
-            home: places::MTVAL,
-            shows: masks::WORD,
-        },
-        twin: Kept {
-            home: places::MTVAL,
-            shows: masks::WORD,
-        },
-    },
-    // mtinst
-    Pair {
-        own: Kept {
-            home: places::MTINST,
-            shows: masks::WORD,
-        },
-        twin: Kept {
-            home: places::MTINST,
-            shows: masks::WORD,
-        },
-    },
-    // mtval2
-    Pair {
-        own: Kept {
-            home: places::MTVAL2,
-            shows: masks::WORD,
-        },
-        twin: Kept {
-            home: places::MTVAL2,
-            shows: masks::WORD,
-        },
-    },
-    // hstatus
-    Pair {
-        own: Kept {
-            home: places::HSTATUS,
-            shows: masks::WORD,
-        },
-        twin: Kept {
-            home: places::HSTATUS,
-            shows: masks::WORD,
-        },
-    },
-    // hedeleg
-    Pair {
-        own: Kept {
-            home: places::HEDELEG,
-            shows: masks::WORD,
-        },
-        twin: Kept {
-            home: places::HEDELEG,
-            shows: masks::WORD,
-        },
-    },
-    // htval
-    Pair {
-        own: Kept {
-            home: places::HTVAL,
-            shows: masks::WORD,
-        },
-        twin: Kept {
-            home: places::HTVAL,
-            shows: masks::WORD,
-        },
-    },
-    // htinst
-    Pair {
-        own: Kept {
-            home: places::HTINST,
-            shows: masks::WORD,
-        },
-        twin: Kept {
-            home: places::HTINST,
-            shows: masks::WORD,
-        },
-    },
-    // hgatp
-    Pair {
-        own: Kept {
-            home: places::HGATP,
-            shows: masks::WORD,
-        },
-        twin: Kept {
-            home: places::HGATP,
-            shows: masks::WORD,
-        },
-    },
-    // hgeip
-    Pair {
-        own: Kept { home: 0, shows: 0 },
-        twin: Kept { home: 0, shows: 0 },
-    },
+const SHOWS: [u64; ROWS] = [
+    masks::SSTATUS,
+    masks::WORD,
+    masks::WORD,
+    masks::WORD,
+    masks::WORD,
+    masks::WORD,
+    masks::WORD,
+    masks::WORD,
+    masks::WORD,
+    masks::WORD,
+    masks::WORD,
+    masks::WORD,
+    masks::WORD,
+    masks::WORD,
+    masks::WORD,
+    masks::WORD,
+    masks::WORD,
+    masks::WORD,
+    masks::WORD,
+    masks::WORD,
+    masks::WORD,
+    masks::WORD,
+    masks::WORD,
+    masks::WORD,
+    masks::WORD,
+    masks::WORD,
+    masks::WORD,
+    masks::WORD,
+    0,
+];
+
+// By row: the one that its number reaches with V=1, for S numbers that of the VS register.
+const TWINS: [u8; ROWS] = [
+    7,
+    8,
+    9,
+    10,
+    11,
+    12,
+    13,
+    7,
+    8,
+    9,
+    10,
+    11,
+    12,
+    13,
+    14,
+    15,
+    16,
+    17,
+    18,
+    19,
+    20,
+    21,
+    22,
+    23,
+    24,
+    25,
+    26,
+    27,
+    28,
 ];
 
 // The numbers of the registers that a hart keeps, by place.
@@ -367,10 +143,22 @@ const NUMBERS: [u64; places::KEPT] = [
     0x680,
 ];
 
-fn pairs() -> [Pair; ROWS]
-    ensures { λ r. ⌜ r ≡ map pairOf registers ⌝ }
+fn homes() -> [u8; ROWS]
+    ensures { λ r. ⌜ r ≡ map (λ (x : Register). x .view .home) registers ⌝ }
 {
-    PAIRS
+    HOMES
+}
+
+fn shows() -> [u64; ROWS]
+    ensures { λ r. ⌜ r ≡ map (λ (x : Register). x .view .shows) registers ⌝ }
+{
+    SHOWS
+}
+
+fn twins() -> [u8; ROWS]
+    ensures { λ r. ⌜ r ≡ map twinRow registers ⌝ }
+{
+    TWINS
 }
 
 fn all_numbers() -> [u64; places::KEPT]
@@ -379,19 +167,29 @@ fn all_numbers() -> [u64; places::KEPT]
     NUMBERS
 }
 
+// What a row has of a place.
+fn kept_at(row: usize) -> Kept
+    requires { ⌜ row < count ⌝ }
+    ensures { λ r. ⌜ r ≡ keptOf (at row .view) ⌝ }
+{
+    let homes = homes();
+    let shows = shows();
+    Kept {
+        home: homes[row] as usize,
+        shows: shows[row],
+    }
+}
+
 // What the number of a row reaches, with V=1 or with V=0.
 pub fn reach(place: usize, guest: bool) -> Kept
     requires { ⌜ place < count ⌝ }
     ensures { λ r. ⌜ r ≡ keptOf (reached guest (at place)) ⌝ }
 {
-    let all = pairs();
-    let both = all[place];
-    let own = both.own;
-    let twin = both.twin;
     if guest {
-        return twin;
+        let twins = twins();
+        return kept_at(twins[place] as usize);
     }
-    own
+    kept_at(place)
 }
 
 // The number of the register kept at a place; 4096, which is no register's, past these.
