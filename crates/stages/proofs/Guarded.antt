@@ -25,7 +25,7 @@ use Rattle.access.specs.Faults.{accessFault, entryFault, guestPageFault}
 use Rattle.stages.specs.declared.Read.{Read}
 use Rattle.stages.specs.Tree.{Walk, done, ask, bind, item, Ran, listed, found, run}
 use Rattle.stages.specs.Stages.{Result, yields, faults, onward, _then_, Translation, slot, follow, inspect, down, begin, translation, guest, machine, second-of, first-of, last, final, walkOf}
-use Rattle.stages.specs.Through.{secondItem, Descent, at-leaf, by-pointer, LetThrough, EndsThrough}
+use Rattle.stages.specs.Through.{Each, secondItem, Descent, at-leaf, by-pointer, LetThrough, EndsThrough}
 use Rattle.stages.proofs.Trees.{begin-at}
 use Rattle.stages.proofs.Runs.{run-bind}
 use Rattle.stages.proofs.Offsets.{never, room, keeps-low}
@@ -118,8 +118,7 @@ Only s (ask s′ l m outside k) = (s′ ≡ s) × Only s outside × ((v : ℕ) �
 
 -- each item of a list is
 abbrev All : ℕ → List Read → Type 0
-All s [] = Unit {0}
-All s (x ∷ xs) = (x .stage ≡ s) × All s xs
+All s = Each (λ x. x .stage ≡ s)
 
 only-run : {A : Type 0} (look : Machine → Entry) (s : ℕ) (w : Walk A) → Only s w → All s (run look w .reads)
 unfolding run

@@ -5,6 +5,7 @@ use mathlib.Core.List.{List, [], _∷_, _++_}
 use Prim.Native.Nat.{ℕ, suc, _+_, _-_, _*_, _^_, _≤_}
 use Rattle.bits.specs.Field.{has}
 use Rattle.image.specs.declared.Entry.{Entry}
+use Rattle.image.specs.declared.Entry.the-variants.{Value}
 use Rattle.rules.specs.declared.Need.{Need}
 use Rattle.rules.specs.Address.{second, number, index}
 use Rattle.rules.specs.Entry.{U, pointer, granted, faulty, target}
@@ -14,10 +15,18 @@ use Rattle.stages.specs.declared.Read.{Read}
 use Rattle.stages.specs.Tree.{item}
 use Rattle.stages.specs.Stages.{machine}
 
+-- P holds of each item of a list
+abbrev pub Each : (Read → Type 0) → List Read → Type 0
+Each P [] = Unit {0}
+Each P (x ∷ xs) = P x × Each P xs
+
 -- two images agree on the entries of a list
 abbrev pub Agree : (Machine → Entry) → (Machine → Entry) → List Read → Type 0
-Agree f g [] = Unit {0}
-Agree f g (x ∷ xs) = (g (x .address) ≡ f (x .address)) × Agree f g xs
+Agree f g = Each (λ x. g (x .address) ≡ f (x .address))
+
+-- each item's value is what the image has at its address
+abbrev pub Shown : (Machine → Entry) → List Read → Type 0
+Shown look = Each (λ x. look (x .address) ≡ Value (x .value))
 
 -- the item of a second-stage entry for a guest address: level, table and value
 abbrev pub secondItem : Root → ℕ → ℕ → ℕ → ℕ → Read

@@ -21,9 +21,9 @@ use Rattle.stages.specs.declared.Read.{Read}
 use Rattle.stages.specs.Tree.{Walk, Ran, run}
 use Rattle.stages.specs.Stages.{Result, yields, faults, look, walkOf}
 use Rattle.stages.specs.Listed.{places, unused}
-use Rattle.stages.specs.Through.{Agree, EndsThrough}
+use Rattle.stages.specs.Through.{Agree, Shown, EndsThrough}
 use Rattle.stages.proofs.Bounds.{at-most}
-use Rattle.stages.proofs.Images.{same-walk}
+use Rattle.stages.proofs.Images.{same-walk, shown-run}
 use Rattle.stages.proofs.Guarded.{guest-entry, answer-page}
 use Rattle.translate.specs.declared.Answer.{Answer}
 use Rattle.translate.specs.declared.Translated.{Translated}
@@ -98,6 +98,10 @@ module _ (h : Hart) (base : ℕ) (bytes : List ℕ) (kind : Kind) (address width
   -- the places beyond the count are zero
   pub beyond-count : drop (t .count) (t .reads) ≡ unused (places - t .count)
   beyond-count = each h base bytes kind address width (λ (x : Translated). drop (x .count) (x .reads) ≡ unused (places - x .count)) (λ x e. refl) (λ p k. drop-append-seam (ran .reads) (unused (places - length (ran .reads))))
+
+  -- each item listed is what the image has at its address
+  pub shown : Shown (look base bytes) (listed t)
+  shown = each h base bytes kind address width (λ (x : Translated). Shown (look base bytes) (listed x)) (λ x e. tt) (λ p k. rw (listed-walk h ran) (shown-run (look base bytes) (walkOf base (length bytes) a)))
 
   -- ---- with the second stage on
 
