@@ -1,13 +1,13 @@
 -- What the second stage let through stands in the list: demand 3. Assumes nothing.
 use mathlib.Core.Path.{_≡_, refl, sym, ap, subst, _∙_}
-use mathlib.Core.Bool.{Bool, true, false, _&&_, _||_}
+use mathlib.Core.Bool.{Bool, true, false}
 use mathlib.Core.List.{List, [], _∷_, _++_, append-nil, append-assoc}
 use Prim.Native.Nat.{ℕ, zero, suc, _+_, _-_, _*_, _%_, _^_, _<_, _≤_}
 use mathlib.Core.Logic.{_⊎_, inl, inr, ⊎-elim}
 use native.Mathlib.Omega.{arith}
 use lib.Dec.{eqb}
 use borrow.Author.Tests.{eqb-true, eqb-false}
-use Rattle.bits.specs.Field.{pick, get}
+use Rattle.bits.specs.Field.{pick}
 use Rattle.image.specs.declared.Entry.{Entry}
 use Rattle.image.specs.declared.Entry.the-variants.{Value, Outside}
 use Rattle.image.specs.Image.{within}
@@ -16,7 +16,7 @@ use Rattle.rules.specs.declared.Need.{Need}
 use Rattle.rules.specs.declared.Judgement.{Judgement}
 use Rattle.rules.specs.declared.Judgement.the-variants.{Pointer, Leaf, Bad}
 use Rattle.rules.specs.Address.{Stage, first, second, number, wellFormed}
-use Rattle.rules.specs.Entry.{pointer, faulty, target, offset, judged}
+use Rattle.rules.specs.Entry.{pointer, faulty, target, judged}
 use Rattle.rules.proofs.Judgements.{is-pointer, is-leaf}
 use Rattle.access.specs.declared.Access.{Access}
 use Rattle.access.specs.declared.Guest.{Guest}
@@ -26,10 +26,10 @@ use Rattle.access.specs.Faults.{accessFault, pageFault, entryFault, guestPageFa
 use Rattle.stages.specs.declared.Read.{Read}
 use Rattle.stages.specs.Tree.{Walk, done, ask, bind, item, Ran, listed, found, run}
 use Rattle.stages.specs.Stages.{Result, yields, faults, onward, _then_, Translation, slot, follow, inspect, down, begin, translation, guest, machine, second-of, first-of, last, final, walkOf}
-use Rattle.stages.specs.Through.{Only, Points, ownRight, entryRight, secondItem, Descent, at-leaf, by-pointer, LetThrough, EndsThrough, Leads, stays, falls, GuestEntry, Yields, FirstResult, bare, walked, AnsweredThrough}
+use Rattle.stages.specs.Through.{Only, Points, ownRight, entryRight, secondItem, Descent, at-leaf, by-pointer, LetThrough, stays, falls, GuestEntry, Yields, FirstResult, bare, walked, AnsweredThrough}
 use Rattle.stages.proofs.Trees.{begin-off, begin-at}
 use Rattle.stages.proofs.Runs.{run-bind}
-use Rattle.stages.proofs.Offsets.{never, room, keeps-low}
+use Rattle.stages.proofs.Offsets.{never, low-part, room, keeps-low}
 use Rattle.stages.proofs.Passed.{points, passes, own-right, entry-right}
 
 -- ---- a second stage that yields an address has let it through
@@ -92,7 +92,7 @@ module _ (look : Machine → Entry) (a : Access) (n : Need) (f : Exception) (g :
           leaf = leaf;
           items = k .items;
           passed = passes n (leaf .level) (leaf .value) (i .good) (i .leaf) user right (grants (leaf .level) (leaf .value) (i .good) (i .leaf));
-          yielded = i .to;
+          yielded = rw low-part at (i .to);
           page = record { from = omega (arith, i .to); to = omega (arith, i .to, room (leaf .level) (g .0) size small aligned) };
         }
 
@@ -173,7 +173,7 @@ module _ (a : Access) where
   -- an end by the last entry
   abbrev End : ℕ → ℕ → Result Guest → Type 0
   End level e (faults f) = Unit {0}
-  End level e (yields g) = (pointer e ≡ false) × (g .0 ≡ target e + get (offset level) (a .address))
+  End level e (yields g) = (pointer e ≡ false) × (g .0 ≡ target e + a .address % 2 ^ (12 + 9 * level))
 
   -- from a level and a table on, with its end: no entry, one that ends it, or a pointer and what follows
   data Part : ℕ → ℕ → List Read → Result Guest → Type 0 where
@@ -208,7 +208,7 @@ module _ (look : Machine → Entry) (a : Access) (on : 0 < a .second .levels) wh
       judge : (m : Machine) (e : ℕ) (d : Judgement) → judged (firstNeed a) level (a .address) e ≡ d → Before a level table ws m
           → Part a level table (ws ++ (item 1 level m e ∷ run look (follow (first-of a) d next) .reads)) (run look (follow (first-of a) d next) .end)
       judge m e Bad j b = ended ws m e (faults (pageFault a)) b tt
-      judge m e (Leaf y) j b = let k = is-leaf (firstNeed a) level (a .address) e y j in ended ws m e (yields (guest y)) b (k .leaf, k .to)
+      judge m e (Leaf y) j b = let k = is-leaf (firstNeed a) level (a .address) e y j in ended ws m e (yields (guest y)) b (k .leaf, rw low-part at (k .to))
       judge m e (Pointer y) j b =
           let k = is-pointer (firstNeed a) level (a .address) e y j in
           pointed ws m e (run look (next y) .reads) (run look (next y) .end) b (points (firstNeed a) level e (k .good) (k .pointer)) (rw (← k .to) (sub y (omega (arith, k .to))))

@@ -1,15 +1,15 @@
 -- The words of demand 3: images and a list; a second-stage walk in the list, and what it let through; the first stage's way down.
 use mathlib.Core.Path.{_≡_}
-use mathlib.Core.Bool.{Bool, true, false, _&&_, _||_}
+use mathlib.Core.Bool.{Bool, true, false, _&&_, _||_, not}
 use mathlib.Core.List.{List, [], _∷_, _++_}
-use Prim.Native.Nat.{ℕ, suc, _+_, _-_, _*_, _^_, _<_, _≤_}
-use Rattle.bits.specs.Field.{get, has}
+use Prim.Native.Nat.{ℕ, suc, _+_, _-_, _*_, _%_, _^_, _<_, _≤_}
+use Rattle.bits.specs.Field.{span, get, has}
 use Rattle.image.specs.declared.Entry.{Entry}
 use Rattle.image.specs.declared.Entry.the-variants.{Value}
 use Rattle.rules.specs.declared.Kind.{Kind}
 use Rattle.rules.specs.Kind.{by}
 use Rattle.rules.specs.Address.{Stage, first, second, number, index}
-use Rattle.rules.specs.Entry.{«V», R, W, X, U, A, D, lowPPN, pointer, malformed, badPointer, target, offset}
+use Rattle.rules.specs.Entry.{«V», R, W, X, U, A, D, lowPPN, pointer, target}
 use Rattle.access.specs.declared.Guest.{Guest}
 use Rattle.access.specs.declared.Machine.{Machine}
 use Rattle.access.specs.declared.Root.{Root}
@@ -36,16 +36,24 @@ Only s = Each (λ x. x .stage ≡ number s)
 
 -- ---- the second stage
 
--- a pointer at which no fault rule held
+-- no fault rule held at an entry: V=1; no W without R; none of bits 63:54
+pub record Formed (e : ℕ) : Type 0 where
+  pub valid : has «V» e ≡ true
+  pub readable : (has W e && not (has R e)) ≡ false
+  pub high : get (span 63 54) e ≡ 0
+
+-- and at a pointer: no A, D or U; not at level 0
 pub record Points (level e : ℕ) : Type 0 where
   pub pointer : pointer e ≡ true
-  pub formed : malformed e ≡ false
-  pub clear : badPointer level e ≡ false
+  pub formed : Formed e
+  pub accessed : has A e ≡ false
+  pub dirty : has D e ≡ false
+  pub user : has U e ≡ false
+  pub above : 0 < level
 
--- a second-stage leaf at which no fault rule held: "so U=1 and the right needed is there"
+-- and at a second-stage leaf: no low PPN in a large one; A=1; "so U=1 and the right needed is there"
 pub record Passes (right : ℕ → Bool) (level e : ℕ) : Type 0 where
-  pub formed : malformed e ≡ false
-  pub valid : has «V» e ≡ true
+  pub formed : Formed e
   pub whole : get (lowPPN level) e ≡ 0
   pub accessed : has A e ≡ true
   pub user : has U e ≡ true
@@ -80,7 +88,7 @@ pub record LetThrough (root : Root) (right : ℕ → Bool) (g : Guest) (walk : L
   pub leaf : Read
   pub items : Descent root (g .0) (root .levels - 1) (root .ppn * 4096) walk leaf
   pub passed : Passes right (leaf .level) (leaf .value)
-  pub yielded : m .0 ≡ target (leaf .value) + get (offset (leaf .level)) (g .0)
+  pub yielded : m .0 ≡ target (leaf .value) + g .0 % 2 ^ (12 + 9 * leaf .level)
   pub page : OnPage leaf m size
 
 -- A list that ends with such a walk. "The walk for a guest entry stands directly before it; the one for the address answered
@@ -116,7 +124,7 @@ pub record Yields (address level table : ℕ) (xs : List Read) (g : Guest) : Typ
   pub way : Leads level table earlier (leaf .level) t
   pub stage : leaf .stage ≡ number first
   pub ends : pointer (leaf .value) ≡ false
-  pub yielded : g .0 ≡ target (leaf .value) + get (offset (leaf .level)) address
+  pub yielded : g .0 ≡ target (leaf .value) + address % 2 ^ (12 + 9 * leaf .level)
 
 -- "the first stage's result, or the access's address if vsatp is Bare", with the items read for it
 pub data FirstResult (root : Root) (address : ℕ) (xs : List Read) (g : Guest) : Type 0 where

@@ -1,6 +1,6 @@
 -- Demand 3 of every translation, for every hart, image and access: refused, misaligned or walked. Assumes nothing.
 use mathlib.Core.Path.{_≡_, refl, sym, ap, subst, _∙_}
-use mathlib.Core.Bool.{Bool, true, false, not}
+use mathlib.Core.Bool.{Bool, true, false}
 use mathlib.Core.List.{List, [], _∷_, _++_}
 use Prim.Native.Nat.{ℕ, zero, suc, _+_, _-_, _*_, _<_, _≤_}
 use native.Mathlib.Nat.{mul-le-mul, zero-mul}
@@ -21,7 +21,7 @@ use Rattle.access.specs.declared.Machine.{Machine}
 use Rattle.access.specs.declared.Root.{Root}
 use Rattle.access.specs.Faults.{misalignment}
 use Rattle.stages.specs.declared.Read.{Read}
-use Rattle.stages.specs.Tree.{Walk, Ran, run}
+use Rattle.stages.specs.Tree.{Ran, run}
 use Rattle.stages.specs.Stages.{Result, yields, faults, look, walkOf}
 use Rattle.stages.specs.Listed.{places, unused}
 use Rattle.stages.specs.Through.{Agree, Shown, ownRight, GuestEntry, AnsweredThrough}
@@ -35,7 +35,7 @@ use Rattle.translate.specs.declared.Translated.{Translated}
 use Rattle.effective.specs.Effective.{root, accessOf}
 use Rattle.translate.specs.Translated.{unsupported, misaligned, refusals, firstRefusal, refusal, unlessRefused, startOf, answer, unwalked, walkedTo, concluded, translated}
 use Rattle.translate.specs.On.{firstOn, secondOn}
-use Rattle.translate.proofs.Accesses.{Aligned, tables-of}
+use Rattle.translate.proofs.Accesses.{tables-of}
 use Rattle.translate.proofs.On.{first-off, second-off, first-tables, second-tables, second-levels}
 use Rattle.translate.proofs.Cases.{ranOf, AtOnce, refused, misaligned-by, each}
 

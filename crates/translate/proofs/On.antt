@@ -1,7 +1,7 @@
 -- What the stages that are on, and those that are off, make of an access. Assumes nothing.
 use mathlib.Core.Path.{_≡_, refl, sym, ap, _∙_}
-use mathlib.Core.Bool.{Bool, true, false, _&&_, _||_, not}
-use mathlib.Core.List.{List, [], _∷_}
+use mathlib.Core.Bool.{Bool, true, false, _&&_, not}
+use mathlib.Core.List.{List}
 use mathlib.Core.Logic.{⊎-elim}
 use Prim.Native.Nat.{ℕ, _<_}
 use native.Mathlib.Omega.{arith}
@@ -9,7 +9,6 @@ use lib.Dec.{eqb, ltb}
 use lib.ListN.{length, getD, List·getD-eq-default}
 use borrow.Author.Tests.{eqb-true, ltb-true, ltb-false, not-false}
 use Rattle.bits.specs.Field.{pick, get}
-use Rattle.bits.specs.Every.{every}
 use Rattle.bits.proofs.Bools.{clash, and-left, and-right, or-cases}
 use Rattle.bits.proofs.Every.{every-at}
 use Rattle.registers.specs.Fields.{MODE}
