@@ -300,11 +300,8 @@ module _ (a : Access) where
 
   -- ---- what the first stage yields
 
-  abbrev YieldsFrom : ℕ → ℕ → List Read → Guest → Type 0
-  YieldsFrom = Yields (a .address)
-
   later-yield : {level table : ℕ} (ws : List Read) (m : Machine) (e : ℕ) (xs : List Read) (g : Guest) → Only second ws → Points level e
-      → YieldsFrom (level - 1) (target e) xs g → YieldsFrom level table (ws ++ (item 1 level m e ∷ xs)) g
+      → Yields (a .address) (level - 1) (target e) xs g → Yields (a .address) level table (ws ++ (item 1 level m e ∷ xs)) g
   later-yield {level} ws m e xs g only p k =
       let y = item 1 level m e in
       record {
@@ -318,13 +315,13 @@ module _ (a : Access) where
         yielded = k .yielded;
       }
 
-  leaf-yield : {level table : ℕ} (ws : List Read) (m : Machine) (e : ℕ) (o : Result Guest) (g : Guest) → Only second ws → End a level e o → o ≡ yields g → YieldsFrom level table (ws ++ (item 1 level m e ∷ [])) g
+  leaf-yield : {level table : ℕ} (ws : List Read) (m : Machine) (e : ℕ) (o : Result Guest) (g : Guest) → Only second ws → End a level e o → o ≡ yields g → Yields (a .address) level table (ws ++ (item 1 level m e ∷ [])) g
   leaf-yield ws m e (faults f) g only h q = never f g q
   leaf-yield {level} {table} ws m e (yields x) g only h q =
       let same : x ≡ g = cc in
       record { earlier = ws; leaf = item 1 level m e; t = table; split = refl; way = stays ws only; stage = refl; ends = h .0; yielded = rw (← same) (h .1) }
 
-  part-yields : {level table : ℕ} {xs : List Read} {o : Result Guest} → Part a level table xs o → (g : Guest) → o ≡ yields g → YieldsFrom level table xs g
+  part-yields : {level table : ℕ} {xs : List Read} {o : Result Guest} → Part a level table xs o → (g : Guest) → o ≡ yields g → Yields (a .address) level table xs g
   part-yields (lost ws f h) g q = never f g q
   part-yields (ended ws m e o b h) g q = leaf-yield ws m e o g (b .only) h q
   part-yields (pointed ws m e xs o b p r) g q = later-yield ws m e xs g (b .only) p (part-yields r g q)
@@ -361,10 +358,11 @@ module _ (look : Machine → Entry) (base len : ℕ) (a : Access) (on : 0 < a .s
       go (faults f) e = rw append-nil (record { only = second-only; through = λ m e. never f m e })
       go (yields m) e = conclude m (let-through look a (secondNeed a) (guestPageFault a g) g refl own (own-right a) on k small even m e) (within base len (m .0) (a .width))
 
-  -- the whole list, and its end
-  record Whole (xs : List Read) (o : Result Machine) : Type 0 where
-    entries : (earlier : List Read) (x : Read) (later : List Read) → x .stage ≡ 1 → xs ≡ earlier ++ (x ∷ later) → EntryFrom a (a .first .levels - 1) (a .first .ppn * 4096) earlier x
-    through : (m : Machine) → o ≡ yields m → AnsweredThrough (a .first) (a .second) own (a .address) xs m (2 ^ k)
+  -- The whole list and its end: each guest entry listed, with where the first stage has come to and what let it through; an address answered, with the
+  -- first stage's result and what let it through.
+  pub record Guarded (xs : List Read) (o : Result Machine) : Type 0 where
+    pub entries : (earlier : List Read) (x : Read) (later : List Read) → x .stage ≡ 1 → xs ≡ earlier ++ (x ∷ later) → GuestEntry (a .first) (a .second) (a .address) (a .first .levels - 1) (a .first .ppn * 4096) earlier x
+    pub answer : (m : Machine) → o ≡ yields m → AnsweredThrough (a .first) (a .second) (ownRight (a .kind) (a .mmxr)) (a .address) xs m (2 ^ k)
 
   abbrev firstWalk : Walk (Result Guest)
   firstWalk = translation (first-of a)
@@ -395,32 +393,23 @@ module _ (look : Machine → Entry) (base len : ℕ) (a : Access) (on : 0 < a .s
       go true e = first-off (eqb-true (a .first .levels) 0 e)
       go false e = first-on (omega (arith, eqb-false (a .first .levels) 0 e))
 
-  whole : Whole (run look (walkOf base len a) .reads) (run look (walkOf base len a) .end)
+  pub guarded : Guarded (run look (walkOf base len a) .reads) (run look (walkOf base len a) .end)
   unfolding walkOf run
-  whole = rw (run-bind look firstWalk (onward (final base len a))) (go (run look firstWalk .end) refl)
+  guarded = rw (run-bind look firstWalk (onward (final base len a))) (go (run look firstWalk .end) refl)
     where
       ws : List Read
       ws = run look firstWalk .reads
 
-      go : (o : Result Guest) → run look firstWalk .end ≡ o → Whole (ws ++ run look (onward (final base len a) o) .reads) (run look (onward (final base len a) o) .end)
-      go (faults f) e = record { entries = λ earlier x later one q. first-part .entries [] tt earlier x later one q; through = λ m e. never f m e }
+      go : (o : Result Guest) → run look firstWalk .end ≡ o → Guarded (ws ++ run look (onward (final base len a) o) .reads) (run look (onward (final base len a) o) .end)
+      go (faults f) e = record { entries = first-part .entries [] tt; answer = λ m e. never f m e }
       go (yields g) e =
           let kept = keeps-low look (first-of a) k small g e in
           let last = final-through g (ap (λ (x : Guest). x .0 % 2 ^ k) (kept .same) ∙ kept .low ∙ aligned) in
           record {
-            entries = λ earlier x later one q. first-part .entries (run look (final base len a g) .reads) (last .only) earlier x later one q;
-            through = λ m q. record {
+            entries = first-part .entries (run look (final base len a g) .reads) (last .only);
+            answer = λ m q. record {
               g = g;
               ends = record { earlier = ws; walk = run look (final base len a g) .reads; split = refl; through = last .through m q };
               first = first-part .result g e;
             };
           }
-
-  -- each guest entry listed: where the first stage has come to, and what let it through
-  pub guest-entry : (earlier : List Read) (x : Read) (later : List Read) → run look (walkOf base len a) .reads ≡ earlier ++ (x ∷ later) → x .stage ≡ 1
-      → GuestEntry (a .first) (a .second) (a .address) (a .first .levels - 1) (a .first .ppn * 4096) earlier x
-  guest-entry earlier x later e one = whole .entries earlier x later one e
-
-  -- an address answered: the first stage's result, and what let it through
-  pub answer-through : (m : Machine) → run look (walkOf base len a) .end ≡ yields m → AnsweredThrough (a .first) (a .second) (ownRight (a .kind) (a .mmxr)) (a .address) (run look (walkOf base len a) .reads) m (2 ^ k)
-  answer-through m e = whole .through m e
