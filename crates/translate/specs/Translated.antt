@@ -21,6 +21,18 @@ use Rattle.translate.specs.declared.Start.the-variants.{Answered, Walks}
 use Rattle.translate.specs.declared.Translated.{Translated}
 use Rattle.effective.specs.Effective.{accessOf}
 
+-- "A translation answers an address, a refusal number or a fault (cause, value, second value, word, flag)": the number of a refusal, 0 where there is none
+abbrev pub refusal : Answer → ℕ
+refusal (Answer.Address m) = 0
+refusal (Answer.Refused number) = number
+refusal (Answer.Fault f) = 0
+
+-- and each case's values
+abbrev pub values : Answer → List ℕ
+values (Answer.Address m) = m .0 ∷ []
+values (Answer.Refused number) = number ∷ []
+values (Answer.Fault f) = f .cause ∷ f .value ∷ f .second ∷ f .word ∷ pick (f .flag) 1 0 ∷ []
+
 -- "width 1, 2, 4 or 8"
 abbrev pub known : ℕ → Bool
 known width = eqb width 1 || eqb width 2 || eqb width 4 || eqb width 8
@@ -43,19 +55,6 @@ refusals h base len kind address width = (not (passes h), 2) ∷ (unfit base len
 abbrev pub firstRefusal : List (Bool × ℕ) → ℕ
 firstRefusal [] = 0
 firstRefusal (r ∷ rs) = pick (r .0) (r .1) (firstRefusal rs)
-
--- "A translation answers an address, a refusal number or a fault (cause, value, second value, word, flag)": the refusal's number, 0 where the access is
--- accepted
-abbrev pub refusal : Answer → ℕ
-refusal (Answer.Address m) = 0
-refusal (Answer.Refused number) = number
-refusal (Answer.Fault f) = 0
-
--- and the values of each case
-abbrev pub values : Answer → List ℕ
-values (Answer.Address m) = m .0 ∷ []
-values (Answer.Refused number) = number ∷ []
-values (Answer.Fault f) = f .cause ∷ f .value ∷ f .second ∷ f .word ∷ pick (f .flag) 1 0 ∷ []
 
 -- a refusal by its number, else what follows
 abbrev pub unlessRefused : ℕ → Start → Start
@@ -81,9 +80,11 @@ unwalked h x = record { hart = h; answer = x; reads = unused places; count = 0 }
 abbrev pub walkedTo : Hart → Ran (Result Machine) → Translated
 walkedTo h r = record { hart = h; answer = answer (r .end); reads = padded places (r .reads); count = length (r .reads) }
 
+-- what it comes to by what it came to before its walk
 abbrev pub concluded : Hart → ℕ → List ℕ → Start → Translated
 concluded h base bytes (Answered x) = unwalked h x
 concluded h base bytes (Walks a) = walkedTo h (run (look base bytes) (walkOf base (length bytes) a))
 
+-- the whole: "It is fed the hart, the image and the access"
 unfoldable pub translated : Hart → ℕ → List ℕ → Kind → ℕ → ℕ → Translated
 translated h base bytes kind address width = concluded h base bytes (startOf h base (length bytes) kind address width)
