@@ -54,6 +54,10 @@ address-yielded : (o : Result Machine) (m : Machine) → answer o ≡ Answer.Add
 address-yielded (yields x) m e = let q : x ≡ m = cc in ap yields q
 address-yielded (faults f) m e = clash (cc)
 
+walk-accepted : (o : Result Machine) → refusal (answer o) ≡ 0
+walk-accepted (yields m) = refl
+walk-accepted (faults f) = refl
+
 module _ (h : Hart) (base : ℕ) (bytes : List ℕ) (kind : Kind) (address width : ℕ) where
   abbrev a : Access
   a = accessOf h kind address width
@@ -79,27 +83,19 @@ module _ (h : Hart) (base : ℕ) (bytes : List ℕ) (kind : Kind) (address width
   unfolding translated startOf
   refused-by = go (firstRefusal (refusals h base (length bytes) kind address width)) (misaligned kind address width)
     where
-      walked : (o : Result Machine) → refusal (answer o) ≡ 0
-      walked (yields m) = refl
-      walked (faults f) = refl
-
       go : (n : ℕ) (b : Bool) → refusal (concluded h base bytes (unlessRefused n (pick b (Answered (Answer.Fault (misalignment a))) (Walks a))) .answer) ≡ n
       go (suc n) b = refl
       go zero true = refl
-      go zero false = walked (ran .end)
+      go zero false = walk-accepted (ran .end)
 
   -- a refusal leaves the hart as given and the list empty
   pub refusal-empty : 0 < refusal (t .answer) → t ≡ unwalked h (Answer.Refused (refusal (t .answer)))
   refusal-empty =
-      each h base bytes kind address width (λ (x : Translated). 0 < refusal (x .answer) → x ≡ unwalked h (Answer.Refused (refusal (x .answer)))) at-once (λ p k. walked (ran .end))
+      each h base bytes kind address width (λ (x : Translated). 0 < refusal (x .answer) → x ≡ unwalked h (Answer.Refused (refusal (x .answer)))) at-once (λ p k q. absurd (omega (arith, walk-accepted (ran .end))))
     where
       at-once : (x : Answer) → AtOnce h base bytes kind address width x → 0 < refusal x → unwalked h x ≡ unwalked h (Answer.Refused (refusal x))
       at-once x (refused n) q = refl
       at-once x (misaligned-by p) q = absurd (omega arith)
-
-      walked : {P : Type 0} (o : Result Machine) → 0 < refusal (answer o) → P
-      walked (yields m) q = absurd (omega arith)
-      walked (faults f) q = absurd (omega arith)
 
   -- an accepted translation leaves a hart that passes check 2
   pub accepted-passes : refusal (t .answer) ≡ 0 → passes (t .hart) ≡ true

@@ -23,12 +23,9 @@ use Rattle.access.specs.declared.Access.{Access}
 use Rattle.effective.specs.Effective.{effective, levels, root, off, firstRoot, secondRoot, accessOf}
 use Rattle.translate.specs.On.{isBare, firstOn, secondOn}
 
-bare-levels : (x : ℕ) → isBare x ≡ true → levels x ≡ 0
-bare-levels x e = rw (eqb-true (get MODE x) 0 e)
-
--- a register of tables whose MODE is Bare, or another that is
-off-levels : (x : ℕ) → not (isBare x) ≡ false → levels x ≡ 0
-off-levels x e = bare-levels x (not-false (isBare x) e)
+-- tables in Bare have no levels
+bare-levels : (x : ℕ) → not (isBare x) ≡ false → levels x ≡ 0
+bare-levels x e = rw (eqb-true (get MODE x) 0 (not-false (isBare x) e))
 
 -- check 2 lets hgatp's MODE be 0 or 8
 mode-eight : (rs : List ℕ) → registersPass rs ≡ true → not (isBare (getD rs hgatp 0)) ≡ true → get MODE (getD rs hgatp 0) ≡ 8
@@ -51,16 +48,16 @@ module _ (h : Hart) (kind : Kind) (address width : ℕ) where
     where
       go : (v m : Bool) → pick v (not (isBare (reg h vsatp))) (not m && not (isBare (reg h satp))) ≡ false
           → pick v (root (reg h vsatp)) (pick m off (root (reg h satp))) .levels ≡ 0
-      go true m e = off-levels (reg h vsatp) e
+      go true m e = bare-levels (reg h vsatp) e
       go false true e = refl
-      go false false e = off-levels (reg h satp) e
+      go false false e = bare-levels (reg h satp) e
 
   pub second-off : secondOn h kind ≡ false → a .second .levels ≡ 0
   unfolding accessOf secondRoot
   second-off = go (effective h kind .v)
     where
       go : (v : Bool) → (v && not (isBare (reg h hgatp))) ≡ false → pick v (root (reg h hgatp)) off .levels ≡ 0
-      go true e = off-levels (reg h hgatp) e
+      go true e = bare-levels (reg h hgatp) e
       go false e = refl
 
   module _ (on : secondOn h kind ≡ true) where
