@@ -1,6 +1,6 @@
 -- The starred known replays (document 01, "Tab against tab"), as one computed table. Assumes nothing.
 use mathlib.Core.Path.{_≡_, refl}
-use mathlib.Core.Bool.{true, false}
+use mathlib.Core.Bool.{true}
 use mathlib.Core.List.{List, [], _∷_}
 use Prim.Native.Nat.{ℕ, _+_, _*_}
 use lib.Dec.{eqb}
@@ -26,6 +26,7 @@ use Rattle.rules.specs.declared.Kind.the-variants.{Load}
 use Rattle.rules.specs.Address.{first, wellFormed, extended, small, index}
 use Rattle.rules.specs.Entry.{malformed, badPointer, badLeaf, faulty, judged}
 use Rattle.access.specs.declared.Machine.{Machine}
+use Rattle.effective.specs.Effective.{firstRoot, secondRoot, accessOf}
 use Rattle.stages.specs.declared.Read.{Read}
 use Rattle.stages.specs.Tree.{Ran, bind, run}
 use Rattle.stages.specs.Stages.{Result, yields, faults, follow, inspect, down, begin, final, walkOf}
@@ -55,25 +56,21 @@ cause a = of (a .outcome)
 abbrev stays : Hart
 stays = record { v = 0; privilege = 3; pc = 0; regs = reset 0 3 0 .regs with (mstatus ↢ (reg (reset 0 3 0) mstatus after (MPP := 3 ∷ MPV := 1 ∷ [])) ∷ []) }
 
--- a load of 8 with V=1, vsatp Bare, hgatp in Sv39x4 with root PPN 80004, over an image of zero entries everywhere
+-- in VS, with hgatp written: Sv39x4, root PPN 80004; vsatp is Bare
+abbrev guest-hart : Hart
+guest-hart = record { v = 1; privilege = 1; pc = 0; regs = write (reset 0 3 0) 0x680 0x8000000000080004 .hart .regs }
+
+-- its load of a byte at a guest physical address, over an image of zero entries everywhere
 abbrev probe : ℕ → Ran (Result Machine)
-probe guest =
-    run (λ m. Value 0) (walkOf 0 0 (record {
-      kind = Load;
-      address = guest;
-      width = 8;
-      v = true;
-      user = false;
-      sum = false;
-      mxr = false;
-      mmxr = false;
-      first = record { levels = 0; ppn = 0 };
-      second = record { levels = 3; ppn = 0x80004 };
-    }))
+probe address = run (λ m. Value 0) (walkOf 0 0 (accessOf guest-hart Load address 1))
 
 abbrev first-read : List Read → ℕ
 first-read [] = 0
 first-read (x ∷ xs) = x .address .0
+
+abbrev fault-cause : Result Machine → ℕ
+fault-cause (yields m) = 0
+fault-cause (faults f) = f .cause
 
 abbrev second-value : Result Machine → ℕ
 second-value (yields m) = 0
@@ -86,7 +83,8 @@ well-formed address = pick (wellFormed first 3 address) 1 0
 abbrev replays : List Replay
 replays =
     first-read (probe 0x1FFFFFFFFFF .reads) gives (0x80004 * 4096 + 0x3FF8) ∷  -- GPA 1FFFFFFFFFF
-    second-value (probe 0x20000000000 .end) gives 0x8000000000 ∷  -- GPA 20000000000
+    fault-cause (probe 0x20000000000 .end) gives 21 ∷  -- GPA 20000000000
+    second-value (probe 0x20000000000 .end) gives 0x8000000000 ∷
     well-formed 0x3FFFFFFFFF gives 1 ∷
     well-formed 0xFFFFFFC000000000 gives 1 ∷
     well-formed 0x4000000000 gives 0 ∷
@@ -102,5 +100,5 @@ replays =
     mret stays .hart .privilege gives 3 ∷ []
 
 pub known : every (λ i (r : Replay). eqb (r .answer) (r .known)) 0 replays ≡ true
-unfolding every get put legal stored firstAt registersPass passes deliveredM deliveredHS deliveredVS delivered settled returnedM mret written accessRow access run bind walkOf final begin down inspect follow index extended small judged malformed badPointer badLeaf faulty
+unfolding every get put legal stored firstAt registersPass passes deliveredM deliveredHS deliveredVS delivered settled returnedM mret written accessRow access firstRoot secondRoot accessOf run bind walkOf final begin down inspect follow index extended small judged malformed badPointer badLeaf faulty
 known = refl

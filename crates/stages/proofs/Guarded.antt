@@ -1,12 +1,13 @@
 -- What the second stage let through stands in the list: demand 3. Assumes nothing.
 use mathlib.Core.Path.{_≡_, refl, sym, ap, subst, _∙_}
-use mathlib.Core.Bool.{Bool, true, false, _&&_, _||_}
+use mathlib.Core.Bool.{Bool, true, false}
 use mathlib.Core.List.{List, [], _∷_, _++_, append-nil, append-assoc}
 use Prim.Native.Nat.{ℕ, zero, suc, _+_, _-_, _*_, _%_, _^_, _<_, _≤_}
 use mathlib.Core.Logic.{_⊎_, inl, inr, ⊎-elim}
 use native.Mathlib.Omega.{arith}
-use Rattle.bits.specs.Field.{pick, has}
-use Rattle.bits.proofs.Bools.{and-left, and-right}
+use lib.Dec.{eqb}
+use borrow.Author.Tests.{eqb-true, eqb-false}
+use Rattle.bits.specs.Field.{pick}
 use Rattle.image.specs.declared.Entry.{Entry}
 use Rattle.image.specs.declared.Entry.the-variants.{Value, Outside}
 use Rattle.image.specs.Image.{within}
@@ -14,21 +15,22 @@ use Rattle.exceptions.specs.declared.Exception.{Exception}
 use Rattle.rules.specs.declared.Need.{Need}
 use Rattle.rules.specs.declared.Judgement.{Judgement}
 use Rattle.rules.specs.declared.Judgement.the-variants.{Pointer, Leaf, Bad}
-use Rattle.rules.specs.Address.{wellFormed, first, second}
-use Rattle.rules.specs.Entry.{R, X, pointer, admitted, granted, target, judged}
-use Rattle.rules.proofs.Judgements.{is-pointer, is-leaf, leaf-right}
+use Rattle.rules.specs.Address.{Stage, first, second, number, wellFormed}
+use Rattle.rules.specs.Entry.{pointer, faulty, target, judged}
+use Rattle.rules.proofs.Judgements.{is-pointer, is-leaf}
 use Rattle.access.specs.declared.Access.{Access}
 use Rattle.access.specs.declared.Guest.{Guest}
 use Rattle.access.specs.declared.Machine.{Machine}
 use Rattle.access.specs.Needs.{firstNeed, secondNeed, entryNeed}
-use Rattle.access.specs.Faults.{accessFault, entryFault, guestPageFault}
+use Rattle.access.specs.Faults.{accessFault, pageFault, entryFault, guestPageFault}
 use Rattle.stages.specs.declared.Read.{Read}
 use Rattle.stages.specs.Tree.{Walk, done, ask, bind, item, Ran, listed, found, run}
 use Rattle.stages.specs.Stages.{Result, yields, faults, onward, _then_, Translation, slot, follow, inspect, down, begin, translation, guest, machine, second-of, first-of, last, final, walkOf}
-use Rattle.stages.specs.Through.{secondItem, Descent, at-leaf, by-pointer, LetThrough, EndsThrough}
-use Rattle.stages.proofs.Trees.{begin-at}
+use Rattle.stages.specs.Through.{Only, Points, ownRight, entryRight, secondItem, Descent, at-leaf, by-pointer, LetThrough, stays, falls, GuestEntry, Yields, FirstResult, bare, walked, AnsweredThrough}
+use Rattle.stages.proofs.Trees.{begin-off, begin-at}
 use Rattle.stages.proofs.Runs.{run-bind}
-use Rattle.stages.proofs.Offsets.{never, room, keeps-low}
+use Rattle.stages.proofs.Offsets.{never, low-part, room, keeps-low}
+use Rattle.stages.proofs.Passed.{points, passes, own-right, entry-right}
 
 -- ---- a second stage that yields an address has let it through
 
@@ -46,7 +48,7 @@ module _ (look : Machine → Entry) (a : Access) (n : Need) (f : Exception) (g :
   Under zero table xs m = ⊥
   Under (suc l) table xs m = Found l table xs m
 
-  deeper : (level table e : ℕ) (xs : List Read) (m : Machine) → pointer e ≡ true → Under level (target e) xs m → Found level table (secondItem (a .second) (g .0) level table e ∷ xs) m
+  deeper : (level table e : ℕ) (xs : List Read) (m : Machine) → Points level e → Under level (target e) xs m → Found level table (secondItem (a .second) (g .0) level table e ∷ xs) m
   deeper zero table e xs m p u = absurd u
   deeper (suc l) table e xs m p u = record { leaf = u .leaf; items = by-pointer l table e xs (u .leaf) p (u .items); yielded = u .yielded }
 
@@ -66,7 +68,7 @@ module _ (look : Machine → Entry) (a : Access) (n : Need) (f : Exception) (g :
           record { leaf = secondItem (a .second) (g .0) level table e; items = at-leaf level table e (is-leaf n level (g .0) e x j .leaf); yielded = cc }
       judge e (Pointer x) j q =
           let k = is-pointer n level (g .0) e x j in
-          deeper level table e (run look (next x) .reads) m (k .pointer) (subst (λ (y : ℕ). Under level y (run look (next x) .reads) m) (k .to) (sub x q))
+          deeper level table e (run look (next x) .reads) m (points n level e (k .good) (k .pointer)) (subst (λ (y : ℕ). Under level y (run look (next x) .reads) m) (k .to) (sub x q))
 
       go : (e : Entry) → found e (run look (done (faults (t .outside)))) (λ v. after v (judged n level (g .0) v)) .end ≡ yields m
           → Found level table (found e (run look (done (faults (t .outside)))) (λ v. after v (judged n level (g .0) v)) .reads) m
@@ -78,207 +80,175 @@ module _ (look : Machine → Entry) (a : Access) (n : Need) (f : Exception) (g :
   descended zero table m h = visited zero table m (λ x. done (faults f)) (λ x q. never f m q) h
   descended (suc l) table m h = visited (suc l) table m (down t l) (λ x q. descended l x m q) h
 
-  -- what a leaf that yields an address tells
-  from-found : n .user ≡ true → (k : ℕ) → k ≤ 12 → g .0 % 2 ^ k ≡ 0 → (m : Machine) (xs : List Read) → Found (a .second .levels - 1) (a .second .ppn * 4096) xs m
-      → LetThrough (a .second) n xs m (2 ^ k)
-  from-found u size small aligned m xs k =
-      let leaf = k .leaf in
-      let i = is-leaf n (leaf .level) (g .0) (leaf .value) (m .0) (k .yielded) in
-      let r = leaf-right n (leaf .level) (leaf .value) (i .good) (i .leaf) in
-      record {
-        guest = g .0;
-        leaf = leaf;
-        items = k .items;
-        passed = i .good;
-        user = rw u at (and-left (admitted n (leaf .value)) (granted n (leaf .value)) r);
-        right = and-right (admitted n (leaf .value)) (granted n (leaf .value)) r;
-        page = record { from = omega (arith, i .to); to = omega (arith, i .to, room (leaf .level) (g .0) size small aligned) };
-      }
+  -- what is needed is a user's, and a right in plain bits
+  module _ (user : n .user ≡ true) (right : ℕ → Bool) (grants : (level e : ℕ) → faulty n level e ≡ false → pointer e ≡ false → right e ≡ true) where
+    -- what a leaf that yields an address tells
+    from-found : (k : ℕ) → k ≤ 12 → g .0 % 2 ^ k ≡ 0 → (m : Machine) (xs : List Read) → Found (a .second .levels - 1) (a .second .ppn * 4096) xs m
+        → LetThrough (a .second) right g xs m (2 ^ k)
+    from-found size small aligned m xs k =
+        let leaf = k .leaf in
+        let i = is-leaf n (leaf .level) (g .0) (leaf .value) (m .0) (k .yielded) in
+        record {
+          leaf = leaf;
+          items = k .items;
+          passed = passes n (leaf .level) (leaf .value) (i .good) (i .leaf) user right (grants (leaf .level) (leaf .value) (i .good) (i .leaf));
+          yielded = rw low-part at (i .to);
+          page = record { from = omega (arith, i .to); to = omega (arith, i .to, room (leaf .level) (g .0) size small aligned) };
+        }
 
-  -- the second stage, on, has let through what it yields
-  pub let-through : 0 < a .second .levels → n .user ≡ true → (k : ℕ) → k ≤ 12 → g .0 % 2 ^ k ≡ 0 → (m : Machine) → run look (translation (second-of a n f g)) .end ≡ yields m
-      → LetThrough (a .second) n (run look (translation (second-of a n f g)) .reads) m (2 ^ k)
-  unfolding run
-  let-through p u k small aligned m h =
-      rw (begin-at t (a .second .levels) p) (go (wellFormed second (a .second .levels) (g .0)) (rw (begin-at t (a .second .levels) p) at h))
-    where
-      root : Walk (Result Machine)
-      root = down t (a .second .levels - 1) (a .second .ppn * 4096)
+    -- the second stage, on, has let through what it yields
+    pub let-through : 0 < a .second .levels → (k : ℕ) → k ≤ 12 → g .0 % 2 ^ k ≡ 0 → (m : Machine) → run look (translation (second-of a n f g)) .end ≡ yields m
+        → LetThrough (a .second) right g (run look (translation (second-of a n f g)) .reads) m (2 ^ k)
+    unfolding run
+    let-through p k small aligned m h =
+        rw (begin-at t (a .second .levels) p) (go (wellFormed second (a .second .levels) (g .0)) (rw (begin-at t (a .second .levels) p) at h))
+      where
+        root : Walk (Result Machine)
+        root = down t (a .second .levels - 1) (a .second .ppn * 4096)
 
-      go : (b : Bool) → run look (pick b root (done (faults f))) .end ≡ yields m → LetThrough (a .second) n (run look (pick b root (done (faults f))) .reads) m (2 ^ k)
-      go true q = from-found u k small aligned m (run look root .reads) (descended (a .second .levels - 1) (a .second .ppn * 4096) m q)
-      go false q = never f m q
+        go : (b : Bool) → run look (pick b root (done (faults f))) .end ≡ yields m → LetThrough (a .second) right g (run look (pick b root (done (faults f))) .reads) m (2 ^ k)
+        go true q = from-found k small aligned m (run look root .reads) (descended (a .second .levels - 1) (a .second .ppn * 4096) m q)
+        go false q = never f m q
 
 -- ---- the items of a second-stage walk are all of the second stage
 
 -- each question of a walk is of one stage
-abbrev Only : {A : Type 0} → ℕ → Walk A → Type 0
-Only s (done a) = Unit {0}
-Only s (ask s′ l m outside k) = (s′ ≡ s) × Only s outside × ((v : ℕ) → Only s (k v))
+abbrev Asks : {A : Type 0} → Stage → Walk A → Type 0
+Asks s (done a) = Unit {0}
+Asks s (ask s′ l m outside k) = (s′ ≡ number s) × Asks s outside × ((v : ℕ) → Asks s (k v))
 
--- each item of a list is
-abbrev All : ℕ → List Read → Type 0
-All s [] = Unit {0}
-All s (x ∷ xs) = (x .stage ≡ s) × All s xs
-
-only-run : {A : Type 0} (look : Machine → Entry) (s : ℕ) (w : Walk A) → Only s w → All s (run look w .reads)
+asks-run : {A : Type 0} (look : Machine → Entry) (s : Stage) (w : Walk A) → Asks s w → Only s (run look w .reads)
 unfolding run
-only-run look s (done a) h = tt
-only-run {A} look s (ask s′ l m outside k) h = go (look m) (only-run look s outside (h .1)) (λ v. only-run look s (k v) (h .2 v))
+asks-run look s (done a) h = tt
+asks-run {A} look s (ask s′ l m outside k) h = go (look m) (asks-run look s outside (h .1)) (λ v. asks-run look s (k v) (h .2 v))
   where
-    go : (e : Entry) → All s (run look outside .reads) → ((v : ℕ) → All s (run look (k v) .reads))
-        → All s (found e (run look outside) (λ v. listed (item s′ l m v) (run look (k v))) .reads)
+    go : (e : Entry) → Only s (run look outside .reads) → ((v : ℕ) → Only s (run look (k v) .reads))
+        → Only s (found e (run look outside) (λ v. listed (item s′ l m v) (run look (k v))) .reads)
     go Outside io ik = io
     go (Value v) io ik = (h .0, ik v)
 
-all-append : (s : ℕ) (xs ys : List Read) → All s xs → All s ys → All s (xs ++ ys)
-all-append s [] ys h k = k
-all-append s (x ∷ xs) ys h k = (h .0, all-append s xs ys (h .1) k)
+only-append : (s : Stage) (xs ys : List Read) → Only s xs → Only s ys → Only s (xs ++ ys)
+only-append s [] ys h k = k
+only-append s (x ∷ xs) ys h k = (h .0, only-append s xs ys (h .1) k)
 
 module _ (a : Access) (n : Need) (f : Exception) (g : Guest) where
   abbrev u : Translation Machine
   u = second-of a n f g
 
-  only-follow : (d : Judgement) (next : ℕ → Walk (Result Machine)) → ((x : ℕ) → Only 2 (next x)) → Only 2 (follow u d next)
+  asks-follow : (d : Judgement) (next : ℕ → Walk (Result Machine)) → ((x : ℕ) → Asks second (next x)) → Asks second (follow u d next)
   unfolding follow
-  only-follow Bad next h = tt
-  only-follow (Leaf x) next h = tt
-  only-follow (Pointer x) next h = h x
+  asks-follow Bad next h = tt
+  asks-follow (Leaf x) next h = tt
+  asks-follow (Pointer x) next h = h x
 
-  only-down : (level table : ℕ) → Only 2 (down u level table)
+  asks-down : (level table : ℕ) → Asks second (down u level table)
   unfolding down bind inspect
-  only-down zero table = (refl, tt, λ e. only-follow (judged n zero (g .0) e) (λ x. done (faults f)) (λ x. tt))
-  only-down (suc l) table = (refl, tt, λ e. only-follow (judged n (suc l) (g .0) e) (down u l) (only-down l))
+  asks-down zero table = (refl, tt, λ e. asks-follow (judged n zero (g .0) e) (λ x. done (faults f)) (λ x. tt))
+  asks-down (suc l) table = (refl, tt, λ e. asks-follow (judged n (suc l) (g .0) e) (down u l) (asks-down l))
 
-  only-begin : (levels : ℕ) → Only 2 (begin u levels)
+  asks-begin : (levels : ℕ) → Asks second (begin u levels)
   unfolding begin
-  only-begin zero = tt
-  only-begin (suc l) = go (wellFormed second (suc l) (g .0))
+  asks-begin zero = tt
+  asks-begin (suc l) = go (wellFormed second (suc l) (g .0))
     where
-      go : (b : Bool) → Only 2 (pick b (down u l (a .second .ppn * 4096)) (done (faults f)))
-      go true = only-down l (a .second .ppn * 4096)
+      go : (b : Bool) → Asks second (pick b (down u l (a .second .ppn * 4096)) (done (faults f)))
+      go true = asks-down l (a .second .ppn * 4096)
       go false = tt
 
-  only-second : (look : Machine → Entry) → All 2 (run look (translation (second-of a n f g)) .reads)
-  only-second look = only-run look 2 (translation (second-of a n f g)) (only-begin (a .second .levels))
+  only-second : (look : Machine → Entry) → Only second (run look (translation (second-of a n f g)) .reads)
+  only-second look = asks-run look second (translation (second-of a n f g)) (asks-begin (a .second .levels))
 
--- ---- directly before each first-stage item stands a second-stage walk that let it through
+-- ---- the first stage's part of the list
 
-data Guarded (a : Access) : List Read → Type 0 where
-  plain : (ws : List Read) → All 2 ws → Guarded a ws
-  before : (ws : List Read) (x : Read) (xs : List Read) → All 2 ws → LetThrough (a .second) entryNeed ws (x .address) 8 → Guarded a xs → Guarded a (ws ++ (x ∷ xs))
+module _ (a : Access) where
+  -- "The entry is at the table plus 8 times the index": a first-stage entry's guest address
+  abbrev entryAt : ℕ → ℕ → Guest
+  entryAt level table = guest (slot (first-of a) level table)
 
-guarded-more : (a : Access) {xs : List Read} (ys : List Read) → Guarded a xs → All 2 ys → Guarded a (xs ++ ys)
-guarded-more a ys (plain ws h) k = plain (ws ++ ys) (all-append 2 ws ys h k)
-guarded-more a ys (before ws x xs h l r) k = rw (append-assoc ws (x ∷ xs) ys) (before ws x (xs ++ ys) h l (guarded-more a ys r k))
+  -- directly before an entry stands the second-stage walk that let it through
+  record Before (level table : ℕ) (ws : List Read) (m : Machine) : Type 0 where
+    only : Only second ws
+    through : LetThrough (a .second) entryRight (entryAt level table) ws m 8
+
+  -- an end by the last entry
+  abbrev End : ℕ → ℕ → Result Guest → Type 0
+  End level e (faults f) = Unit {0}
+  End level e (yields g) = (pointer e ≡ false) × (g .0 ≡ target e + a .address % 2 ^ (12 + 9 * level))
+
+  -- from a level and a table on, with its end: no entry, one that ends it, or a pointer and what follows
+  data Part : ℕ → ℕ → List Read → Result Guest → Type 0 where
+    lost : {level table : ℕ} (ws : List Read) (f : Exception) → Only second ws → Part level table ws (faults f)
+    ended : {level table : ℕ} (ws : List Read) (m : Machine) (e : ℕ) (o : Result Guest) → Before level table ws m → End level e o
+        → Part level table (ws ++ (item 1 level m e ∷ [])) o
+    pointed : {level table : ℕ} (ws : List Read) (m : Machine) (e : ℕ) (xs : List Read) (o : Result Guest) → Before level table ws m → Points level e
+        → Part (level - 1) (target e) xs o → Part level table (ws ++ (item 1 level m e ∷ xs)) o
 
 module _ (look : Machine → Entry) (a : Access) (on : 0 < a .second .levels) where
-  guarded-visit : (level x : ℕ) → x % 8 ≡ 0 → (next : ℕ → Walk (Result Guest)) → ((y : ℕ) → y % 8 ≡ 0 → Guarded a (run look (next y) .reads))
-      → Guarded a (run look (first-of a .through x then inspect (first-of a) level next) .reads)
+  -- what a run of the first stage comes to
+  abbrev PartOf : ℕ → ℕ → Ran (Result Guest) → Type 0
+  PartOf level table r = Part a level table (r .reads) (r .end)
+
+  part-visit : (level table : ℕ) → table % 8 ≡ 0 → (next : ℕ → Walk (Result Guest)) → ((y : ℕ) → y % 8 ≡ 0 → PartOf (level - 1) y (run look (next y)))
+      → PartOf level table (run look (first-of a .through (slot (first-of a) level table) then inspect (first-of a) level next))
   unfolding run inspect follow
-  guarded-visit level x aligned next sub = rw (run-bind look w (onward (inspect (first-of a) level next))) (go (run look w .end) refl)
+  part-visit level table aligned next sub = rw (run-bind look w (onward (inspect (first-of a) level next))) (go (run look w .end) refl)
     where
+      g : Guest
+      g = entryAt a level table
+
       w : Walk (Result Machine)
-      w = translation (second-of a entryNeed (entryFault a (guest x)) (guest x))
+      w = translation (second-of a entryNeed (entryFault a g) g)
 
       ws : List Read
       ws = run look w .reads
 
-      second-only : All 2 ws
-      second-only = only-second a entryNeed (entryFault a (guest x)) (guest x) look
+      second-only : Only second ws
+      second-only = only-second a entryNeed (entryFault a g) g look
 
-      alone : Guarded a (ws ++ [])
-      alone = rw append-nil (plain ws second-only)
+      judge : (m : Machine) (e : ℕ) (d : Judgement) → judged (firstNeed a) level (a .address) e ≡ d → Before a level table ws m
+          → Part a level table (ws ++ (item 1 level m e ∷ run look (follow (first-of a) d next) .reads)) (run look (follow (first-of a) d next) .end)
+      judge m e Bad j b = ended ws m e (faults (pageFault a)) b tt
+      judge m e (Leaf y) j b = let k = is-leaf (firstNeed a) level (a .address) e y j in ended ws m e (yields (guest y)) b (k .leaf, rw low-part at (k .to))
+      judge m e (Pointer y) j b =
+          let k = is-pointer (firstNeed a) level (a .address) e y j in
+          pointed ws m e (run look (next y) .reads) (run look (next y) .end) b (points (firstNeed a) level e (k .good) (k .pointer)) (rw (← k .to) (sub y (omega (arith, k .to))))
 
-      judge : (v : ℕ) (d : Judgement) → judged (firstNeed a) level (a .address) v ≡ d → Guarded a (run look (follow (first-of a) d next) .reads)
-      judge v Bad j = plain [] tt
-      judge v (Leaf y) j = plain [] tt
-      judge v (Pointer y) j = sub y (omega (arith, is-pointer (firstNeed a) level (a .address) v y j .to))
+      entry : (m : Machine) → LetThrough (a .second) entryRight g ws m 8 → (e : Entry)
+          → let r = found e (run look (done (faults (first-of a .outside)))) (λ v. listed (item 1 level m v) (run look (follow (first-of a) (judged (firstNeed a) level (a .address) v) next))) in
+          Part a level table (ws ++ r .reads) (r .end)
+      entry m l Outside = rw append-nil (lost ws (accessFault a) second-only)
+      entry m l (Value v) = judge m v (judged (firstNeed a) level (a .address) v) refl (record { only = second-only; through = l })
 
-      entry : (m : Machine) → LetThrough (a .second) entryNeed ws m 8 → (e : Entry)
-          → Guarded a (ws ++ found e (run look (done (faults (first-of a .outside)))) (λ v. listed (item 1 level m v) (run look (follow (first-of a) (judged (firstNeed a) level (a .address) v) next))) .reads)
-      entry m l Outside = alone
-      entry m l (Value v) = before ws (item 1 level m v) _ second-only l (judge v (judged (firstNeed a) level (a .address) v) refl)
+      go : (o : Result Machine) → run look w .end ≡ o
+          → let r = run look (onward (inspect (first-of a) level next) o) in
+          Part a level table (ws ++ r .reads) (r .end)
+      go (faults f) e = rw append-nil (lost ws f second-only)
+      go (yields m) e = entry m (let-through look a entryNeed (entryFault a g) g refl entryRight entry-right on 3 (omega arith) (omega arith) m e) (look m)
 
-      go : (o : Result Machine) → run look w .end ≡ o → Guarded a (ws ++ run look (onward (inspect (first-of a) level next) o) .reads)
-      go (faults f) e = alone
-      go (yields m) e = entry m (let-through look a entryNeed (entryFault a (guest x)) (guest x) on refl 3 (omega arith) aligned m e) (look m)
-
-  guarded-down : (level table : ℕ) → table % 8 ≡ 0 → Guarded a (run look (down (first-of a) level table) .reads)
+  part-down : (level table : ℕ) → table % 8 ≡ 0 → PartOf level table (run look (down (first-of a) level table))
   unfolding down run
-  guarded-down zero table aligned = guarded-visit zero (slot (first-of a) zero table) (omega arith) (λ x. done (faults (first-of a .fault))) (λ x e. plain [] tt)
-  guarded-down (suc l) table aligned = guarded-visit (suc l) (slot (first-of a) (suc l) table) (omega arith) (down (first-of a) l) (guarded-down l)
+  part-down zero table aligned = part-visit zero table aligned (λ x. done (faults (first-of a .fault))) (λ x e. lost [] (first-of a .fault) tt)
+  part-down (suc l) table aligned = let e : suc l - 1 ≡ l = omega arith in part-visit (suc l) table aligned (down (first-of a) l) (λ y q. rw e (part-down l y q))
 
-  guarded-begin : (levels : ℕ) → Guarded a (run look (begin (first-of a) levels) .reads)
-  unfolding begin run
-  guarded-begin zero = plain [] tt
-  guarded-begin (suc l) = go (wellFormed first (suc l) (a .address))
+  part-begin : 0 < a .first .levels → PartOf (a .first .levels - 1) (a .first .ppn * 4096) (run look (translation (first-of a)))
+  unfolding run
+  part-begin p = rw (begin-at (first-of a) (a .first .levels) p) (go (wellFormed first (a .first .levels) (a .address)))
     where
-      go : (b : Bool) → Guarded a (run look (pick b (down (first-of a) l (a .first .ppn * 4096)) (done (faults (first-of a .fault)))) .reads)
-      go true = guarded-down l (a .first .ppn * 4096) (omega arith)
-      go false = plain [] tt
+      go : (b : Bool) → PartOf (a .first .levels - 1) (a .first .ppn * 4096) (run look (pick b (down (first-of a) (a .first .levels - 1) (a .first .ppn * 4096)) (done (faults (first-of a .fault)))))
+      go true = part-down (a .first .levels - 1) (a .first .ppn * 4096) (omega arith)
+      go false = lost [] (first-of a .fault) tt
 
-  -- an access of 2 ^ k bytes, aligned
-  module _ (base len k : ℕ) (small : k ≤ 12) (aligned : a .address % 2 ^ k ≡ 0) where
-    -- the access itself: only second-stage items, and an answer was let through
-    record Final (xs : List Read) (o : Result Machine) : Type 0 where
-      only : All 2 xs
-      through : (m : Machine) → o ≡ yields m → LetThrough (a .second) (secondNeed a) xs m (2 ^ k)
+-- ---- where an entry of the first stage stands
 
-    final-through : (g : Guest) → g .0 % 2 ^ k ≡ 0 → Final (run look (final base len a g) .reads) (run look (final base len a g) .end)
-    unfolding final run last
-    final-through g even = rw (run-bind look w (onward (λ m. done (last base len a m)))) (go (run look w .end) refl)
-      where
-        w : Walk (Result Machine)
-        w = translation (second-of a (secondNeed a) (guestPageFault a g) g)
-
-        ws : List Read
-        ws = run look w .reads
-
-        conclude : (m : Machine) → LetThrough (a .second) (secondNeed a) ws m (2 ^ k) → (b : Bool) → Final (ws ++ []) (pick b (yields m) (faults (accessFault a)))
-        conclude m l true = rw append-nil (record { only = only-second a (secondNeed a) (guestPageFault a g) g look; through = λ m′ e. let q : m ≡ m′ = cc in rw (← q) l })
-        conclude m l false = rw append-nil (record { only = only-second a (secondNeed a) (guestPageFault a g) g look; through = λ m′ e. never (accessFault a) m′ e })
-
-        go : (o : Result Machine) → run look w .end ≡ o → Final (ws ++ run look (onward (λ m. done (last base len a m)) o) .reads) (run look (onward (λ m. done (last base len a m)) o) .end)
-        go (faults f) e = rw append-nil (record { only = only-second a (secondNeed a) (guestPageFault a g) g look; through = λ m e. never f m e })
-        go (yields m) e = conclude m (let-through look a (secondNeed a) (guestPageFault a g) g on refl k small even m e) (within base len (m .0) (a .width))
-
-    -- the whole list, and its end
-    record Whole (xs : List Read) (o : Result Machine) : Type 0 where
-      guarded : Guarded a xs
-      through : (m : Machine) → o ≡ yields m → EndsThrough (a .second) (secondNeed a) xs m (2 ^ k)
-
-    whole : Whole (run look (walkOf base len a) .reads) (run look (walkOf base len a) .end)
-    unfolding walkOf run
-    whole = rw (run-bind look w (onward (final base len a))) (go (run look w .end) refl)
-      where
-        w : Walk (Result Guest)
-        w = translation (first-of a)
-
-        ws : List Read
-        ws = run look w .reads
-
-        go : (o : Result Guest) → run look w .end ≡ o → Whole (ws ++ run look (onward (final base len a) o) .reads) (run look (onward (final base len a) o) .end)
-        go (faults f) e = record { guarded = guarded-more a [] (guarded-begin (a .first .levels)) tt; through = λ m e. never f m e }
-        go (yields g) e =
-            let kept = keeps-low look (first-of a) k small g e in
-            let last = final-through g (ap (λ (x : Guest). x .0 % 2 ^ k) (kept .same) ∙ kept .low ∙ aligned) in
-            record {
-              guarded = guarded-more a (run look (final base len a g) .reads) (guarded-begin (a .first .levels)) (last .only);
-              through = λ m q. record { earlier = ws; walk = run look (final base len a g) .reads; split = refl; through = last .through m q };
-            }
-
--- ---- the same, of each first-stage item by its place in the list
-
-in-all : (s : ℕ) (earlier : List Read) (x : Read) (later : List Read) → All s (earlier ++ (x ∷ later)) → x .stage ≡ s
-in-all s [] x later h = h .0
-in-all s (y ∷ ys) x later h = in-all s ys x later (h .1)
+in-only : (s : Stage) (earlier : List Read) (x : Read) (later : List Read) → Only s (earlier ++ (x ∷ later)) → x .stage ≡ number s
+in-only s [] x later h = h .0
+in-only s (y ∷ ys) x later h = in-only s ys x later (h .1)
 
 not-both : {P : Type 0} (x : ℕ) → x ≡ 2 → x ≡ 1 → P
 not-both x e f = let no : ⊥ = omega arith in absurd no
 
--- where an item of the first stage stands in a list that begins with a second-stage walk and an item of the first stage
-cut : (ws earlier : List Read) (x y : Read) (xs later : List Read) → All 2 ws → x .stage ≡ 1 → ws ++ (y ∷ xs) ≡ earlier ++ (x ∷ later)
+-- an item of the first stage in a list that begins with a second-stage walk and an item
+cut : (ws earlier : List Read) (x y : Read) (xs later : List Read) → Only second ws → x .stage ≡ 1 → ws ++ (y ∷ xs) ≡ earlier ++ (x ∷ later)
     → ((earlier ≡ ws) × (x ≡ y)) ⊎ ((es : List Read) × (earlier ≡ ws ++ (y ∷ es)) × (xs ≡ es ++ (x ∷ later)))
 cut [] [] x y xs later h one e = inl (refl, cc)
 cut [] (z ∷ es) x y xs later h one e = inr (es, (cc), (cc))
@@ -288,39 +258,158 @@ cut (w ∷ ws) (z ∷ es) x y xs later h one e =
     let r : ws ++ (y ∷ xs) ≡ es ++ (x ∷ later) = cc in
     ⊎-elim (λ k. inl (let i : es ≡ ws = k .0 in (cc), k .1)) (λ k. inr (k .0, (let i : es ≡ ws ++ (y ∷ k .0) = k .1 in cc), k .2)) (cut ws es x y xs later (h .1) one r)
 
-by-place : (a : Access) {xs : List Read} → Guarded a xs → (earlier : List Read) (x : Read) (later : List Read) → x .stage ≡ 1 → xs ≡ earlier ++ (x ∷ later)
-    → EndsThrough (a .second) entryNeed earlier (x .address) 8
-by-place a (plain ws h) earlier x later one e = not-both (x .stage) (in-all 2 earlier x later (rw e at h)) one
-by-place a (before ws y xs h l r) earlier x later one e =
-    ⊎-elim
-    (λ k. record { earlier = []; walk = ws; split = k .0; through = rw (k .1) l })
-    (λ k.
-    let s = by-place a r (k .0) x later one (k .2) in
-    record {
-      earlier = ws ++ (y ∷ s .earlier);
-      walk = s .walk;
-      split = k .1 ∙ ap (λ (es : List Read). ws ++ (y ∷ es)) (s .split) ∙ sym (append-assoc ws (y ∷ s .earlier) (s .walk));
-      through = s .through;
-    })
-    (cut ws earlier x y xs later h one e)
+module _ (a : Access) where
+  -- a guest entry from a level and a table on
+  abbrev EntryFrom : ℕ → ℕ → List Read → Read → Type 0
+  EntryFrom = GuestEntry (a .first) (a .second) (a .address)
+
+  first-entry : {level table : ℕ} (ws : List Read) (m : Machine) (e : ℕ) → Before a level table ws m → EntryFrom level table ws (item 1 level m e)
+  first-entry {table = table} ws m e b = record { t = table; way = stays ws (b .only); through = record { earlier = []; walk = ws; split = refl; through = b .through } }
+
+  later-entry : {level table : ℕ} (ws : List Read) (m : Machine) (e : ℕ) (es : List Read) (x : Read) → Only second ws → Points level e
+      → EntryFrom (level - 1) (target e) es x → EntryFrom level table (ws ++ (item 1 level m e ∷ es)) x
+  later-entry {level} ws m e es x only p k =
+      let y = item 1 level m e in
+      let s = k .through in
+      record {
+        t = k .t;
+        way = falls ws y es only refl p (k .way);
+        through = record {
+          earlier = ws ++ (y ∷ s .earlier);
+          walk = s .walk;
+          split = ap (λ (zs : List Read). ws ++ (y ∷ zs)) (s .split) ∙ sym (append-assoc ws (y ∷ s .earlier) (s .walk));
+          through = s .through;
+        };
+      }
+
+  module _ (zs : List Read) (rest : Only second zs) (x : Read) (later : List Read) (one : x .stage ≡ 1) where
+    here-or-later : {level table : ℕ} (ws : List Read) (m : Machine) (e : ℕ) (xs earlier : List Read) → Before a level table ws m
+        → ((es : List Read) → xs ++ zs ≡ es ++ (x ∷ later) → EntryFrom level table (ws ++ (item 1 level m e ∷ es)) x)
+        → (ws ++ (item 1 level m e ∷ xs)) ++ zs ≡ earlier ++ (x ∷ later) → EntryFrom level table earlier x
+    here-or-later {level} ws m e xs earlier b after q =
+        ⊎-elim (λ k. rw (k .0, k .1) (first-entry ws m e b)) (λ k. rw (k .1) (after (k .0) (k .2)))
+        (cut ws earlier x (item 1 level m e) (xs ++ zs) later (b .only) one (sym (append-assoc ws (item 1 level m e ∷ xs) zs) ∙ q))
+
+    only-second-stage : {P : Type 0} (xs earlier : List Read) → Only second xs → xs ≡ earlier ++ (x ∷ later) → P
+    only-second-stage xs earlier h e = not-both (x .stage) (in-only second earlier x later (rw e at h)) one
+
+    by-place : {level table : ℕ} {xs : List Read} {o : Result Guest} → Part a level table xs o → (earlier : List Read) → xs ++ zs ≡ earlier ++ (x ∷ later) → EntryFrom level table earlier x
+    by-place (lost ws f h) earlier e = only-second-stage (ws ++ zs) earlier (only-append second ws zs h rest) e
+    by-place (ended ws m v o b h) earlier e = here-or-later ws m v [] earlier b (λ es q. only-second-stage zs es rest q) e
+    by-place (pointed ws m v xs o b p r) earlier e = here-or-later ws m v xs earlier b (λ es q. later-entry ws m v es x (b .only) p (by-place r es q)) e
+
+  -- ---- what the first stage yields
+
+  later-yield : {level table : ℕ} (ws : List Read) (m : Machine) (e : ℕ) (xs : List Read) (g : Guest) → Only second ws → Points level e
+      → Yields (a .address) (level - 1) (target e) xs g → Yields (a .address) level table (ws ++ (item 1 level m e ∷ xs)) g
+  later-yield {level} ws m e xs g only p k =
+      let y = item 1 level m e in
+      record {
+        earlier = ws ++ (y ∷ k .earlier);
+        leaf = k .leaf;
+        t = k .t;
+        split = ap (λ (zs : List Read). ws ++ (y ∷ zs)) (k .split) ∙ sym (append-assoc ws (y ∷ k .earlier) (k .leaf ∷ []));
+        way = falls ws y (k .earlier) only refl p (k .way);
+        stage = k .stage;
+        ends = k .ends;
+        yielded = k .yielded;
+      }
+
+  leaf-yield : {level table : ℕ} (ws : List Read) (m : Machine) (e : ℕ) (o : Result Guest) (g : Guest) → Only second ws → End a level e o → o ≡ yields g → Yields (a .address) level table (ws ++ (item 1 level m e ∷ [])) g
+  leaf-yield ws m e (faults f) g only h q = never f g q
+  leaf-yield {level} {table} ws m e (yields x) g only h q =
+      let same : x ≡ g = cc in
+      record { earlier = ws; leaf = item 1 level m e; t = table; split = refl; way = stays ws only; stage = refl; ends = h .0; yielded = rw (← same) (h .1) }
+
+  part-yields : {level table : ℕ} {xs : List Read} {o : Result Guest} → Part a level table xs o → (g : Guest) → o ≡ yields g → Yields (a .address) level table xs g
+  part-yields (lost ws f h) g q = never f g q
+  part-yields (ended ws m e o b h) g q = leaf-yield ws m e o g (b .only) h q
+  part-yields (pointed ws m e xs o b p r) g q = later-yield ws m e xs g (b .only) p (part-yields r g q)
 
 -- ---- demand 3 of the walk: an access of 2 ^ k bytes, aligned, with the second stage on
 
 module _ (look : Machine → Entry) (base len : ℕ) (a : Access) (on : 0 < a .second .levels) (k : ℕ) (small : k ≤ 12) (aligned : a .address % 2 ^ k ≡ 0) where
-  -- the eight bytes of each guest entry listed lie on a page that a second-stage walk directly before it let through
-  pub guest-entry : (earlier : List Read) (x : Read) (later : List Read) → run look (walkOf base len a) .reads ≡ earlier ++ (x ∷ later) → x .stage ≡ 1
-      → EndsThrough (a .second) entryNeed earlier (x .address) 8
-  guest-entry earlier x later e one = by-place a (whole look a on base len k small aligned .guarded) earlier x later one e
+  abbrev own : ℕ → Bool
+  own = ownRight (a .kind) (a .mmxr)
 
-  -- the bytes at an address answered lie on a page that the second-stage walk ending the list let through
-  pub answer-page : (m : Machine) → run look (walkOf base len a) .end ≡ yields m → EndsThrough (a .second) (secondNeed a) (run look (walkOf base len a) .reads) m (2 ^ k)
-  answer-page m e = whole look a on base len k small aligned .through m e
+  -- the access itself: only second-stage items, and an answer was let through
+  record Final (g : Guest) (xs : List Read) (o : Result Machine) : Type 0 where
+    only : Only second xs
+    through : (m : Machine) → o ≡ yields m → LetThrough (a .second) own g xs m (2 ^ k)
 
--- what the read of a guest entry needs is R
-pub entry-right : (e : ℕ) → granted entryNeed e ≡ true → has R e ≡ true
-entry-right e h = go (has R e) (has X e) h
-  where
-    go : (r x : Bool) → (r || (x && false)) ≡ true → r ≡ true
-    go true x h = refl
-    go false true h = h
-    go false false h = h
+  final-through : (g : Guest) → g .0 % 2 ^ k ≡ 0 → Final g (run look (final base len a g) .reads) (run look (final base len a g) .end)
+  unfolding final run last
+  final-through g even = rw (run-bind look w (onward (λ m. done (last base len a m)))) (go (run look w .end) refl)
+    where
+      w : Walk (Result Machine)
+      w = translation (second-of a (secondNeed a) (guestPageFault a g) g)
+
+      ws : List Read
+      ws = run look w .reads
+
+      second-only : Only second ws
+      second-only = only-second a (secondNeed a) (guestPageFault a g) g look
+
+      conclude : (m : Machine) → LetThrough (a .second) own g ws m (2 ^ k) → (b : Bool) → Final g (ws ++ []) (pick b (yields m) (faults (accessFault a)))
+      conclude m l true = rw append-nil (record { only = second-only; through = λ m′ e. let q : m ≡ m′ = cc in rw (← q) l })
+      conclude m l false = rw append-nil (record { only = second-only; through = λ m′ e. never (accessFault a) m′ e })
+
+      go : (o : Result Machine) → run look w .end ≡ o → Final g (ws ++ run look (onward (λ m. done (last base len a m)) o) .reads) (run look (onward (λ m. done (last base len a m)) o) .end)
+      go (faults f) e = rw append-nil (record { only = second-only; through = λ m e. never f m e })
+      go (yields m) e = conclude m (let-through look a (secondNeed a) (guestPageFault a g) g refl own (own-right a) on k small even m e) (within base len (m .0) (a .width))
+
+  -- The whole list and its end: each guest entry listed, with where the first stage has come to and what let it through; an address answered, with the
+  -- first stage's result and what let it through.
+  pub record Guarded (xs : List Read) (o : Result Machine) : Type 0 where
+    pub entries : (earlier : List Read) (x : Read) (later : List Read) → x .stage ≡ 1 → xs ≡ earlier ++ (x ∷ later) → GuestEntry (a .first) (a .second) (a .address) (a .first .levels - 1) (a .first .ppn * 4096) earlier x
+    pub answer : (m : Machine) → o ≡ yields m → AnsweredThrough (a .first) (a .second) (ownRight (a .kind) (a .mmxr)) (a .address) xs m (2 ^ k)
+
+  abbrev firstWalk : Walk (Result Guest)
+  firstWalk = translation (first-of a)
+
+  -- the first stage, on or off: its entries, followed by second-stage items, and its result
+  record First (r : Ran (Result Guest)) : Type 0 where
+    entries : (zs : List Read) → Only second zs → (earlier : List Read) (x : Read) (later : List Read) → x .stage ≡ 1 → r .reads ++ zs ≡ earlier ++ (x ∷ later)
+        → EntryFrom a (a .first .levels - 1) (a .first .ppn * 4096) earlier x
+    result : (g : Guest) → r .end ≡ yields g → FirstResult (a .first) (a .address) (r .reads) g
+
+  first-off : a .first .levels ≡ 0 → First (run look firstWalk)
+  unfolding run
+  first-off off =
+      rw (begin-off (first-of a) (a .first .levels) off)
+      (record { entries = λ zs h earlier x later one e. only-second-stage a zs h x later one zs earlier h e; result = λ g e. bare off refl (let q : guest (a .address) ≡ g = cc in rw (← q) refl) })
+
+  first-on : 0 < a .first .levels → First (run look firstWalk)
+  first-on p =
+      record {
+        entries = λ zs h earlier x later one e. by-place a zs h x later one (part-begin look a on p) earlier e;
+        result = λ g e. walked p (part-yields a (part-begin look a on p) g e);
+      }
+
+  first-part : First (run look firstWalk)
+  first-part = go (eqb (a .first .levels) 0) refl
+    where
+      go : (b : Bool) → eqb (a .first .levels) 0 ≡ b → First (run look firstWalk)
+      go true e = first-off (eqb-true (a .first .levels) 0 e)
+      go false e = first-on (omega (arith, eqb-false (a .first .levels) 0 e))
+
+  pub guarded : Guarded (run look (walkOf base len a) .reads) (run look (walkOf base len a) .end)
+  unfolding walkOf run
+  guarded = rw (run-bind look firstWalk (onward (final base len a))) (go (run look firstWalk .end) refl)
+    where
+      ws : List Read
+      ws = run look firstWalk .reads
+
+      go : (o : Result Guest) → run look firstWalk .end ≡ o → Guarded (ws ++ run look (onward (final base len a) o) .reads) (run look (onward (final base len a) o) .end)
+      go (faults f) e = record { entries = first-part .entries [] tt; answer = λ m e. never f m e }
+      go (yields g) e =
+          let kept = keeps-low look (first-of a) k small g e in
+          let last = final-through g (ap (λ (x : Guest). x .0 % 2 ^ k) (kept .same) ∙ kept .low ∙ aligned) in
+          record {
+            entries = first-part .entries (run look (final base len a g) .reads) (last .only);
+            answer = λ m q. record {
+              g = g;
+              ends = record { earlier = ws; walk = run look (final base len a g) .reads; split = refl; through = last .through m q };
+              first = first-part .result g e;
+            };
+          }

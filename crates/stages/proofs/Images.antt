@@ -1,4 +1,5 @@
--- Two images of one base and length that agree on the entries listed for one of them give the same answer and list. Assumes nothing.
+-- A list shows what the image holds; two images of one base and length that agree on the entries listed for one of them give the same answer and list.
+-- Assumes nothing.
 use mathlib.Core.Path.{_≡_, refl, ap}
 use mathlib.Core.Bool.{Bool, true, false}
 use mathlib.Core.List.{List}
@@ -12,7 +13,18 @@ use Rattle.image.specs.Image.{within, eight, entry}
 use Rattle.access.specs.declared.Machine.{Machine}
 use Rattle.stages.specs.Tree.{Walk, done, ask, item, listed, found, run}
 use Rattle.stages.specs.Stages.{look}
-use Rattle.stages.specs.Through.{Agree}
+use Rattle.stages.specs.Through.{Agree, Shown}
+
+-- of any walk: each item listed is what the image has at its address
+pub shown-run : {A : Type 0} (look : Machine → Entry) (w : Walk A) → Shown look (run look w .reads)
+unfolding run
+shown-run look (done a) = tt
+shown-run look (ask s l m outside k) = go (look m) refl (shown-run look outside) (λ v. shown-run look (k v))
+  where
+    go : (e : Entry) → look m ≡ e → Shown look (run look outside .reads) → ((v : ℕ) → Shown look (run look (k v) .reads))
+        → Shown look (found e (run look outside) (λ v. listed (item s l m v) (run look (k v))) .reads)
+    go Outside e io ik = io
+    go (Value v) e io ik = (e, ik v)
 
 -- two images lack the same entries
 abbrev SameGaps : (Machine → Entry) → (Machine → Entry) → Type 0

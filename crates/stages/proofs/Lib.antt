@@ -3,6 +3,7 @@ pub mod Runs
 pub mod Bounds
 pub mod Images
 pub mod Offsets
+pub mod Passed
 pub mod Guarded
 pub mod Raised
 pub mod Words

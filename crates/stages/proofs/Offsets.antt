@@ -24,10 +24,13 @@ use Rattle.stages.proofs.Runs.{run-bind}
 pub never : {A : Type 0} {P : Type 0} (f : Exception) (x : A) → _≡_ {A = Result A} (faults f) (yields x) → P
 never f x e = clash (cc)
 
+pub low-part : (level x : ℕ) → get (offset level) x ≡ x % 2 ^ (12 + 9 * level)
+unfolding get
+low-part level x = let one : x / 1 ≡ x = omega arith in rw one
+
 module _ (level x k : ℕ) where
   offset-by : (j : ℕ) → 12 + 9 * level ≡ j + k → get (offset level) x ≡ (x / 2 ^ k % 2 ^ j) * 2 ^ k + x % 2 ^ k
-  unfolding get
-  offset-by j whole = let one : x / 1 ≡ x = omega arith in rw (one, whole) (mod-pow-add x j k)
+  offset-by j whole = rw (low-part level x, whole) (mod-pow-add x j k)
 
   -- an aligned address leaves room for as many bytes on its page
   pub room : k ≤ 12 → x % 2 ^ k ≡ 0 → get (offset level) x + 2 ^ k ≤ 2 ^ (12 + 9 * level)

@@ -18,6 +18,7 @@ use Rattle.access.specs.Needs.{firstNeed, secondNeed, entryNeed}
 use Rattle.access.specs.Faults.{accessFault, pageFault, guestPageFault, entryFault}
 use Rattle.stages.specs.Tree.{Walk, done, ask, bind}
 
+-- With V=0 the second stage has no levels: it passes the address on, so that a `Guest` is a machine address there.
 abbrev pub guest : ℕ → Guest
 guest x = record { 0 = x }
 

@@ -1,7 +1,7 @@
 -- What an access that was not refused has, and what the code finds before the walk. Assumes nothing.
-use mathlib.Core.Path.{_≡_, refl, sym, ap, subst}
+use mathlib.Core.Path.{_≡_, refl, sym, subst}
 use mathlib.Core.Bool.{Bool, true, false, _||_, not}
-use mathlib.Core.List.{List}
+use mathlib.Core.List.{List, [], _∷_}
 use Prim.Native.Nat.{ℕ, _+_, _-_, _%_, _^_, _<_, _≤_}
 use native.Mathlib.Omega.{arith}
 use lib.Bits.{bitAnd, and-mask}
@@ -31,11 +31,8 @@ use Rattle.second_stage.specs.Words.{reached, result}
 use Rattle.effective.specs.declared.Mode.{Mode}
 use Rattle.effective.specs.Effective.{effective, root, off, firstRoot, secondRoot, accessOf}
 use Rattle.translate.specs.declared.Answer.{Answer}
-use Rattle.translate.specs.declared.Translated.{Translated}
-use Rattle.translate.specs.declared.Start.{Start}
 use Rattle.translate.specs.declared.Start.the-variants.{Answered, Walks}
-use Rattle.translate.specs.Start.{startOf}
-use Rattle.translate.specs.Translated.{known, unsupported, misaligned, answer, unwalked, walkedTo, translated}
+use Rattle.translate.specs.Translated.{known, unsupported, misaligned, firstRefusal, unlessRefused, startOf, answer, unwalked, walkedTo, translated}
 
 -- an access that is not refused has a known width
 pub known-width : (kind : Kind) (address width : ℕ) → unsupported kind address width ≡ false → known width ≡ true
@@ -137,28 +134,10 @@ same-answer (faults f) = refl
 -- ---- what the code finds before the walk
 
 module _ (h : Hart) (base : ℕ) (bytes : List ℕ) (kind : Kind) (address width : ℕ) where
-  abbrev accessed : Access
-  accessed = accessOf h kind address width
-
-  abbrev starts : (b₁ b₂ b₃ b₄ : Bool) → Start
-  starts b₁ b₂ b₃ b₄ = pick b₁ (Answered (Answer.Refused 2)) (pick b₂ (Answered (Answer.Refused 1)) (pick b₃ (Answered (Answer.Refused 3)) (pick b₄ (Answered (Answer.Fault (misalignment accessed))) (Walks accessed))))
-
-  abbrev settles : (b₁ b₂ b₃ b₄ : Bool) → Translated
-  settles b₁ b₂ b₃ b₄ =
-      pick b₁ (unwalked h (Answer.Refused 2)) (pick b₂ (unwalked h (Answer.Refused 1)) (pick b₃ (unwalked h (Answer.Refused 3)) (pick b₄ (unwalked h (Answer.Fault (misalignment accessed)))
-      (walkedTo h (run (look base bytes) (walkOf base (length bytes) accessed))))))
-
   -- an answer, with an empty list
   pub at-once : (x : Answer) → startOf h base (length bytes) kind address width ≡ Answered x → translated h base bytes kind address width ≡ unwalked h x
-  unfolding startOf translated
-  at-once x = go (not (passes h)) (unfit base (length bytes)) (unsupported kind address width) (misaligned kind address width)
-    where
-      go : (b₁ b₂ b₃ b₄ : Bool) → starts b₁ b₂ b₃ b₄ ≡ Answered x → settles b₁ b₂ b₃ b₄ ≡ unwalked h x
-      go true b₂ b₃ b₄ e = let y : Answer.Refused 2 ≡ x = cc in ap (unwalked h) y
-      go false true b₃ b₄ e = let y : Answer.Refused 1 ≡ x = cc in ap (unwalked h) y
-      go false false true b₄ e = let y : Answer.Refused 3 ≡ x = cc in ap (unwalked h) y
-      go false false false true e = let y : Answer.Fault (misalignment accessed) ≡ x = cc in ap (unwalked h) y
-      go false false false false e = clash (cc)
+  unfolding translated
+  at-once x e = rw e
 
   -- an access to walk for
   pub record Walking (a : Access) : Type 0 where
@@ -168,16 +147,25 @@ module _ (h : Hart) (base : ℕ) (bytes : List ℕ) (kind : Kind) (address width
     pub first : a .first .levels ≤ 3
     pub second : a .second .levels ≤ 3
 
-  pub walking : (a : Access) → startOf h base (length bytes) kind address width ≡ Walks a → Walking a
-  unfolding startOf translated
-  walking a s = go (not (passes h)) (unfit base (length bytes)) (unsupported kind address width) (misaligned kind address width) refl s refl
+  -- a walk is for the access itself, over an image that fits
+  walks : (a : Access) → startOf h base (length bytes) kind address width ≡ Walks a → (accessOf h kind address width ≡ a) × (unfit base (length bytes) ≡ false)
+  unfolding startOf
+  walks a = go (not (passes h)) (unfit base (length bytes)) (unsupported kind address width) (misaligned kind address width)
     where
-      go : (b₁ b₂ b₃ b₄ : Bool) → unfit base (length bytes) ≡ b₂ → starts b₁ b₂ b₃ b₄ ≡ Walks a → translated h base bytes kind address width ≡ settles b₁ b₂ b₃ b₄ → Walking a
-      go true b₂ b₃ b₄ u e r = clash (cc)
-      go false true b₃ b₄ u e r = clash (cc)
-      go false false true b₄ u e r = clash (cc)
-      go false false false true u e r = clash (cc)
-      go false false false false u e r =
-          let y : accessed ≡ a = cc in
-          let t = tables-of h kind address width in
-          rw (← y) (record { translates = r; ends = fit base (length bytes) u; tables = t .0; first = t .1; second = t .2 })
+      accessed : Access
+      accessed = accessOf h kind address width
+
+      go : (b₁ b₂ b₃ b₄ : Bool) → unlessRefused (firstRefusal ((b₁, 2) ∷ (b₂, 1) ∷ (b₃, 3) ∷ [])) (pick b₄ (Answered (Answer.Fault (misalignment accessed))) (Walks accessed)) ≡ Walks a
+          → (accessed ≡ a) × (b₂ ≡ false)
+      go true b₂ b₃ b₄ e = clash (cc)
+      go false true b₃ b₄ e = clash (cc)
+      go false false true b₄ e = clash (cc)
+      go false false false true e = clash (cc)
+      go false false false false e = (cc, refl)
+
+  pub walking : (a : Access) → startOf h base (length bytes) kind address width ≡ Walks a → Walking a
+  unfolding translated
+  walking a s =
+      let w = walks a s in
+      let t = subst (λ (x : Access). Tables x × (x .first .levels ≤ 3) × (x .second .levels ≤ 3)) (w .0) (tables-of h kind address width) in
+      record { translates = rw s; ends = fit base (length bytes) (w .1); tables = t .0; first = t .1; second = t .2 }

@@ -2,9 +2,10 @@
 use mathlib.Core.Path.{_≡_}
 use mathlib.Core.Bool.{true, not}
 use mathlib.Core.List.{List}
-use Prim.Native.Nat.{ℕ}
+use Prim.Native.Nat.{ℕ, suc}
 use lib.ListN.{length}
 use borrow.Author.Tests.{not-false}
+use Rattle.bits.specs.Field.{pick}
 use Rattle.bits.proofs.Bools.{pick-both}
 use Rattle.hart.specs.declared.state.Hart.{Hart}
 use Rattle.hart.specs.Hart.{passes}
@@ -15,9 +16,11 @@ use Rattle.access.specs.Faults.{misalignment}
 use Rattle.stages.specs.Tree.{Ran, run}
 use Rattle.stages.specs.Stages.{Result, look, walkOf}
 use Rattle.translate.specs.declared.Answer.{Answer}
+use Rattle.translate.specs.declared.Start.{Start}
+use Rattle.translate.specs.declared.Start.the-variants.{Answered, Walks}
 use Rattle.translate.specs.declared.Translated.{Translated}
 use Rattle.effective.specs.Effective.{accessOf}
-use Rattle.translate.specs.Translated.{unsupported, misaligned, unwalked, walkedTo, translated}
+use Rattle.translate.specs.Translated.{unsupported, misaligned, unlessRefused, startOf, unwalked, walkedTo, concluded, translated}
 use Rattle.translate.proofs.Accesses.{Aligned, aligned}
 
 module _ (h : Hart) (base : ℕ) (bytes : List ℕ) (kind : Kind) (address width : ℕ) where
@@ -27,14 +30,21 @@ module _ (h : Hart) (base : ℕ) (bytes : List ℕ) (kind : Kind) (address width
 
   -- the answers that no walk gives
   pub data AtOnce : Answer → Type 0 where
-    refused : (n : ℕ) → AtOnce (Answer.Refused n)
+    refused : (n : ℕ) → AtOnce (Answer.Refused (suc n))
     misaligned-by : passes h ≡ true → AtOnce (Answer.Fault (misalignment (accessOf h kind address width)))
 
   -- what holds of these and of the walk holds of every translation
   pub each : (P : Translated → Type 0) → ((x : Answer) → AtOnce x → P (unwalked h x)) → (passes h ≡ true → Aligned address width → P (walkedTo h ranOf)) → P (translated h base bytes kind address width)
-  unfolding translated
+  unfolding translated startOf
   each P u w =
-      pick-both P (not (passes h)) _ _ (λ e. u (Answer.Refused 2) (refused 2))
-      (λ n. pick-both P (unfit base (length bytes)) _ _ (λ e. u (Answer.Refused 1) (refused 1))
-      (λ e. pick-both P (unsupported kind address width) _ _ (λ e. u (Answer.Refused 3) (refused 3))
-      (λ p. pick-both P (misaligned kind address width) _ _ (λ e. u (Answer.Fault (misalignment (accessOf h kind address width))) (misaligned-by (not-false _ n))) (λ q. w (not-false _ n) (aligned kind address width p q)))))
+      pick-both Q (not (passes h)) 2 _ (λ e. u (Answer.Refused 2) (refused 1))
+      (λ n. pick-both Q (unfit base (length bytes)) 1 _ (λ e. u (Answer.Refused 1) (refused 0))
+      (λ e. pick-both Q (unsupported kind address width) 3 0 (λ e. u (Answer.Refused 3) (refused 2))
+      (λ p. pick-both R (misaligned kind address width) _ _ (λ e. u _ (misaligned-by (not-false _ n))) (λ q. w (not-false _ n) (aligned kind address width p q)))))
+    where
+      -- by what it comes to before its walk, and by the refusal's number
+      R : Start → Type 0
+      R s = P (concluded h base bytes s)
+
+      Q : ℕ → Type 0
+      Q n = R (unlessRefused n (pick (misaligned kind address width) (Answered (Answer.Fault (misalignment (accessOf h kind address width)))) (Walks (accessOf h kind address width))))

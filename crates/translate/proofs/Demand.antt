@@ -1,35 +1,42 @@
 -- Demand 3 of every translation, for every hart, image and access: refused, misaligned or walked. Assumes nothing.
 use mathlib.Core.Path.{_≡_, refl, sym, ap, subst, _∙_}
-use mathlib.Core.Bool.{Bool, true, false, not}
+use mathlib.Core.Bool.{Bool, true, false}
 use mathlib.Core.List.{List, [], _∷_, _++_}
-use Prim.Native.Nat.{ℕ, suc, _+_, _-_, _*_, _<_, _≤_}
+use Prim.Native.Nat.{ℕ, zero, suc, _+_, _-_, _*_, _<_, _≤_}
 use native.Mathlib.Nat.{mul-le-mul, zero-mul}
 use native.Mathlib.Omega.{arith}
 use lib.ListN.{length, take, drop}
 use lib.Seq.{take-append-seam, drop-append-seam}
 use Rattle.bits.specs.Field.{pick}
 use Rattle.bits.proofs.Bools.{clash}
+use Rattle.registers.specs.Fields.{MXR}
+use Rattle.registers.specs.Places.{vsatp, hgatp, mstatus}
+use Rattle.privilege.specs.Mode.{isSet}
 use Rattle.hart.specs.declared.state.Hart.{Hart}
-use Rattle.hart.specs.Hart.{passes}
+use Rattle.hart.specs.Hart.{reg, passes}
 use Rattle.image.specs.Image.{unfit}
 use Rattle.rules.specs.declared.Kind.{Kind}
 use Rattle.access.specs.declared.Access.{Access}
 use Rattle.access.specs.declared.Machine.{Machine}
-use Rattle.access.specs.Needs.{secondNeed, entryNeed}
+use Rattle.access.specs.declared.Root.{Root}
 use Rattle.access.specs.Faults.{misalignment}
 use Rattle.stages.specs.declared.Read.{Read}
-use Rattle.stages.specs.Tree.{Walk, Ran, run}
+use Rattle.stages.specs.Tree.{Ran, run}
 use Rattle.stages.specs.Stages.{Result, yields, faults, look, walkOf}
 use Rattle.stages.specs.Listed.{places, unused}
-use Rattle.stages.specs.Through.{Agree, EndsThrough}
+use Rattle.stages.specs.Through.{Agree, Shown, ownRight, GuestEntry, AnsweredThrough}
 use Rattle.stages.proofs.Bounds.{at-most}
-use Rattle.stages.proofs.Images.{same-walk}
-use Rattle.stages.proofs.Guarded.{guest-entry, answer-page}
+use Rattle.stages.proofs.Images.{same-walk, shown-run}
+use Rattle.stages.proofs.Guarded.{guarded}
 use Rattle.translate.specs.declared.Answer.{Answer}
+use Rattle.translate.specs.declared.Start.{Start}
+use Rattle.translate.specs.declared.Start.the-variants.{Answered, Walks}
 use Rattle.translate.specs.declared.Translated.{Translated}
-use Rattle.effective.specs.Effective.{accessOf}
-use Rattle.translate.specs.Translated.{unsupported, misaligned, answer, unwalked, walkedTo, translated}
+use Rattle.effective.specs.Effective.{root, accessOf}
+use Rattle.translate.specs.Translated.{unsupported, misaligned, refusals, firstRefusal, refusal, unlessRefused, startOf, answer, unwalked, walkedTo, concluded, translated}
+use Rattle.translate.specs.On.{firstOn, secondOn}
 use Rattle.translate.proofs.Accesses.{tables-of}
+use Rattle.translate.proofs.On.{first-off, second-off, first-tables, second-tables, second-levels}
 use Rattle.translate.proofs.Cases.{ranOf, AtOnce, refused, misaligned-by, each}
 
 -- the items listed: the places up to the count
@@ -47,6 +54,10 @@ address-yielded : (o : Result Machine) (m : Machine) → answer o ≡ Answer.Add
 address-yielded (yields x) m e = let q : x ≡ m = cc in ap yields q
 address-yielded (faults f) m e = clash (cc)
 
+walk-accepted : (o : Result Machine) → refusal (answer o) ≡ 0
+walk-accepted (yields m) = refl
+walk-accepted (faults f) = refl
+
 module _ (h : Hart) (base : ℕ) (bytes : List ℕ) (kind : Kind) (address width : ℕ) where
   abbrev a : Access
   a = accessOf h kind address width
@@ -60,21 +71,39 @@ module _ (h : Hart) (base : ℕ) (bytes : List ℕ) (kind : Kind) (address width
   -- ---- answer and list are those of the walk
 
   pub is-walk : passes h ≡ true → unfit base (length bytes) ≡ false → unsupported kind address width ≡ false → misaligned kind address width ≡ false → t ≡ walkedTo h ran
-  unfolding translated
+  unfolding translated startOf
   is-walk p q r s = rw (p, q, r, s)
 
   -- the hart is handed back as it was
   pub same-hart : t .hart ≡ h
   same-hart = each h base bytes kind address width (λ (x : Translated). x .hart ≡ h) (λ x e. refl) (λ p k. refl)
 
-  -- a refusal leaves the hart as given and the list empty
-  pub refusal-empty : (n : ℕ) → t .answer ≡ Answer.Refused n → t ≡ unwalked h (Answer.Refused n)
-  refusal-empty n e =
-      each h base bytes kind address width (λ (x : Translated). x .answer ≡ Answer.Refused n → x ≡ unwalked h (Answer.Refused n)) (λ x u q. ap (unwalked h) q) (λ p k q. never-refused (ran .end) n q) e
+  -- a refusal is given exactly by the list of refusals
+  pub refused-by : refusal (t .answer) ≡ firstRefusal (refusals h base (length bytes) kind address width)
+  unfolding translated startOf
+  refused-by = go (firstRefusal (refusals h base (length bytes) kind address width)) (misaligned kind address width)
     where
-      never-refused : {P : Type 0} (o : Result Machine) (n : ℕ) → answer o ≡ Answer.Refused n → P
-      never-refused (yields m) n q = clash (cc)
-      never-refused (faults f) n q = clash (cc)
+      go : (n : ℕ) (b : Bool) → refusal (concluded h base bytes (unlessRefused n (pick b (Answered (Answer.Fault (misalignment a))) (Walks a))) .answer) ≡ n
+      go (suc n) b = refl
+      go zero true = refl
+      go zero false = walk-accepted (ran .end)
+
+  -- a refusal leaves the hart as given and the list empty
+  pub refusal-empty : 0 < refusal (t .answer) → t ≡ unwalked h (Answer.Refused (refusal (t .answer)))
+  refusal-empty =
+      each h base bytes kind address width (λ (x : Translated). 0 < refusal (x .answer) → x ≡ unwalked h (Answer.Refused (refusal (x .answer)))) at-once (λ p k q. absurd (omega (arith, walk-accepted (ran .end))))
+    where
+      at-once : (x : Answer) → AtOnce h base bytes kind address width x → 0 < refusal x → unwalked h x ≡ unwalked h (Answer.Refused (refusal x))
+      at-once x (refused n) q = refl
+      at-once x (misaligned-by p) q = absurd (omega arith)
+
+  -- an accepted translation leaves a hart that passes check 2
+  pub accepted-passes : refusal (t .answer) ≡ 0 → passes (t .hart) ≡ true
+  accepted-passes = each h base bytes kind address width (λ (x : Translated). refusal (x .answer) ≡ 0 → passes (x .hart) ≡ true) at-once (λ p k q. p)
+    where
+      at-once : (x : Answer) → AtOnce h base bytes kind address width x → refusal x ≡ 0 → passes h ≡ true
+      at-once x (refused n) q = absurd (omega arith)
+      at-once x (misaligned-by p) q = p
 
   -- n first-stage levels over m second-stage levels: at most (n + 1) (m + 1) - 1 reads; a stage that is off has none
   pub count-bound : t .count ≤ a .first .levels * suc (a .second .levels) + a .second .levels
@@ -86,38 +115,61 @@ module _ (h : Hart) (base : ℕ) (bytes : List ℕ) (kind : Kind) (address width
       let m : a .first .levels * suc (a .second .levels) ≤ 3 * 4 = mul-le-mul {m₂ = 4} (k .1) (omega (arith, k .2)) in
       omega (arith, count-bound, k .2)
 
-  pub first-alone : a .second .levels ≡ 0 → t .count ≤ 3
-  first-alone e = let k = tables-of h kind address width in omega (arith, rw e at count-bound, k .1)
+  pub first-alone : secondOn h kind ≡ false → t .count ≤ 3
+  first-alone off = let k = tables-of h kind address width in omega (arith, rw (second-off h kind address width off) at count-bound, k .1)
 
-  pub second-alone : a .first .levels ≡ 0 → t .count ≤ 3
-  second-alone e = let k = tables-of h kind address width in omega (arith, rw (e, zero-mul) at count-bound, k .2)
+  pub second-alone : firstOn h kind ≡ false → t .count ≤ 3
+  second-alone off = let k = tables-of h kind address width in omega (arith, rw (first-off h kind address width off, zero-mul) at count-bound, k .2)
 
-  pub no-stage : a .first .levels ≡ 0 → a .second .levels ≡ 0 → t .count ≡ 0
-  no-stage e f = omega (arith, rw (e, f) at count-bound)
+  pub no-stage : firstOn h kind ≡ false → secondOn h kind ≡ false → t .count ≡ 0
+  no-stage off off′ = omega (arith, rw (first-off h kind address width off, second-off h kind address width off′) at count-bound)
 
   -- the places beyond the count are zero
   pub beyond-count : drop (t .count) (t .reads) ≡ unused (places - t .count)
   beyond-count = each h base bytes kind address width (λ (x : Translated). drop (x .count) (x .reads) ≡ unused (places - x .count)) (λ x e. refl) (λ p k. drop-append-seam (ran .reads) (unused (places - length (ran .reads))))
 
+  -- each item listed is what the image has at its address
+  pub shown : Shown (look base bytes) (listed t)
+  shown = each h base bytes kind address width (λ (x : Translated). Shown (look base bytes) (listed x)) (λ x e. tt) (λ p k. rw (listed-walk h ran) (shown-run (look base bytes) (walkOf base (length bytes) a)))
+
   -- ---- with the second stage on
 
-  module _ (on : 0 < a .second .levels) where
-    -- the eight bytes of each guest entry listed lie on a page that a second-stage walk standing directly before it let through with R and U
-    pub guest-entries : (earlier : List Read) (x : Read) (later : List Read) → listed t ≡ earlier ++ (x ∷ later) → x .stage ≡ 1 → EndsThrough (a .second) entryNeed earlier (x .address) 8
+  module _ (on : secondOn h kind ≡ true) where
+    -- vsatp's tables and hgatp's
+    abbrev vs : Root
+    vs = root (reg h vsatp)
+
+    abbrev g : Root
+    g = root (reg h hgatp)
+
+    -- the access's own right, with mstatus's MXR
+    abbrev own : ℕ → Bool
+    own = ownRight kind (isSet MXR (reg h mstatus))
+
+    -- Each guest entry listed is the one that the first stage's pointers before it lead to; its eight bytes lie on a page that a second-stage walk
+    -- standing directly before it let its guest address through to, with R and U.
+    pub guest-entries : (earlier : List Read) (x : Read) (later : List Read) → listed t ≡ earlier ++ (x ∷ later) → x .stage ≡ 1
+        → GuestEntry vs g address (vs .levels - 1) (vs .ppn * 4096) earlier x
     unfolding accessOf
     guest-entries earlier x later e one =
-        each h base bytes kind address width (λ (r : Translated). listed r ≡ earlier ++ (x ∷ later) → EndsThrough (a .second) entryNeed earlier (x .address) 8) (λ y u q. not-empty earlier x later q)
-        (λ p k q. guest-entry (look base bytes) base (length bytes) a on (k .k) (k .small) (k .multiple) earlier x later (sym (listed-walk h ran) ∙ q) one) e
+        subst (λ (r : Root). GuestEntry vs r address (vs .levels - 1) (vs .ppn * 4096) earlier x) (second-tables h kind address width on)
+        (subst (λ (r : Root). GuestEntry r (a .second) address (r .levels - 1) (r .ppn * 4096) earlier x) (first-tables h kind address width on)
+        (each h base bytes kind address width (λ (r : Translated). listed r ≡ earlier ++ (x ∷ later) → GuestEntry (a .first) (a .second) address (a .first .levels - 1) (a .first .ppn * 4096) earlier x) (λ y u q. not-empty earlier x later q)
+        (λ p k q. guarded (look base bytes) base (length bytes) a (second-levels h kind address width on p) (k .k) (k .small) (k .multiple) .entries earlier x later one (sym (listed-walk h ran) ∙ q)) e))
 
-    -- the bytes of the access at an address answered lie on a page that the second-stage walk ending the list let through with its own right and U
-    pub answer-let-through : (m : Machine) → t .answer ≡ Answer.Address m → EndsThrough (a .second) (secondNeed a) (listed t) m width
+    -- The bytes of the access at an address answered lie on a page that the second-stage walk ending the list let through, for the first stage's result, with
+    -- the access's own right and U.
+    pub answer-let-through : (m : Machine) → t .answer ≡ Answer.Address m → AnsweredThrough vs g own address (listed t) m width
     unfolding accessOf
     answer-let-through m e =
-        each h base bytes kind address width (λ (r : Translated). r .answer ≡ Answer.Address m → EndsThrough (a .second) (secondNeed a) (listed r) m width) at-once
+        subst (λ (r : Root). AnsweredThrough vs r own address (listed t) m width) (second-tables h kind address width on)
+        (subst (λ (r : Root). AnsweredThrough r (a .second) own address (listed t) m width) (first-tables h kind address width on)
+        (each h base bytes kind address width (λ (r : Translated). r .answer ≡ Answer.Address m → AnsweredThrough (a .first) (a .second) own address (listed r) m width) at-once
         (λ p k q. rw (listed-walk h ran)
-        (subst (λ (n : ℕ). EndsThrough (a .second) (secondNeed a) (ran .reads) m n) (sym (k .size)) (answer-page (look base bytes) base (length bytes) a on (k .k) (k .small) (k .multiple) m (address-yielded (ran .end) m q)))) e
+        (subst (λ (n : ℕ). AnsweredThrough (a .first) (a .second) own address (ran .reads) m n) (sym (k .size))
+        (guarded (look base bytes) base (length bytes) a (second-levels h kind address width on p) (k .k) (k .small) (k .multiple) .answer m (address-yielded (ran .end) m q)))) e))
       where
-        at-once : (x : Answer) → AtOnce h base bytes kind address width x → x ≡ Answer.Address m → EndsThrough (a .second) (secondNeed a) (listed (unwalked h x)) m width
+        at-once : (x : Answer) → AtOnce h base bytes kind address width x → x ≡ Answer.Address m → AnsweredThrough (a .first) (a .second) own address (listed (unwalked h x)) m width
         at-once x (refused n) q = clash (cc)
         at-once x (misaligned-by p) q = clash (cc)
 
@@ -125,22 +177,8 @@ module _ (h : Hart) (base : ℕ) (bytes : List ℕ) (kind : Kind) (address width
 pub same-image : (h : Hart) (base : ℕ) (s s′ : List ℕ) (kind : Kind) (address width : ℕ) → length s ≡ length s′
     → Agree (look base s) (look base s′) (listed (translated h base s kind address width)) → translated h base s′ kind address width ≡ translated h base s kind address width
 unfolding translated
-same-image h base s s′ kind address width e = rw (← e) (go (not (passes h)) (unfit base (length s)) (unsupported kind address width) (misaligned kind address width))
+same-image h base s s′ kind address width e = rw (← e) (go (startOf h base (length s) kind address width))
   where
-    w : Walk (Result Machine)
-    w = walkOf base (length s) (accessOf h kind address width)
-
-    out : Bool → Bool → Bool → Bool → Ran (Result Machine) → Translated
-    out b₁ b₂ b₃ b₄ r =
-        pick b₁ (unwalked h (Answer.Refused 2))
-        (pick b₂ (unwalked h (Answer.Refused 1))
-        (pick b₃ (unwalked h (Answer.Refused 3))
-        (pick b₄ (unwalked h (Answer.Fault (misalignment (accessOf h kind address width)))) (walkedTo h r))))
-
-    go : (b₁ b₂ b₃ b₄ : Bool) → Agree (look base s) (look base s′) (listed (out b₁ b₂ b₃ b₄ (run (look base s) w)))
-        → out b₁ b₂ b₃ b₄ (run (look base s′) w) ≡ out b₁ b₂ b₃ b₄ (run (look base s) w)
-    go true b₂ b₃ b₄ g = refl
-    go false true b₃ b₄ g = refl
-    go false false true b₄ g = refl
-    go false false false true g = refl
-    go false false false false g = ap (walkedTo h) (same-walk base s s′ e w (rw (listed-walk h (run (look base s) w)) at g))
+    go : (x : Start) → Agree (look base s) (look base s′) (listed (concluded h base s x)) → concluded h base s′ x ≡ concluded h base s x
+    go (Answered x) g = refl
+    go (Walks a) g = rw (← e) (ap (walkedTo h) (same-walk base s s′ e (walkOf base (length s) a) (rw (listed-walk h (run (look base s) (walkOf base (length s) a))) at g)))

@@ -1,4 +1,5 @@
 pub mod Accesses
+pub mod On
 pub mod Cases
 pub mod Demand
 pub mod Delivered

@@ -1,2 +1,2 @@
 pub mod Translated
-pub mod Start
+pub mod On

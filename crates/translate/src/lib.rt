@@ -2,8 +2,7 @@
 ghost use mathlib.Core.Path.{_≡_};
 ghost use mathlib.Core.Bool.{true};
 ghost use Rattle.second_stage.specs.Words.{result};
-ghost use Rattle.translate.specs.Start.{startOf};
-ghost use Rattle.translate.specs.Translated.{known, unsupported, misaligned, answer, translated};
+ghost use Rattle.translate.specs.Translated.{known, unsupported, misaligned, startOf, answer, translated};
 use access::Access;
 use access::Machine;
 use exceptions::Exception;

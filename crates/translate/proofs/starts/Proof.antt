@@ -1,7 +1,7 @@
 use mathlib.Core.Path.{sym, ap, _∙_}
 use mathlib.Core.Bool.{not}
 use borrow.Author.Needs.{needs}
-use Rattle.translate.specs.Start.{startOf}
+use Rattle.translate.specs.Translated.{startOf}
 use Rattle.translate.proofs.Accesses.{known-width}
 use Rattle.translate.proofs.starts.Statement.{statement}
 use Rattle.translate.proofs.starts.Tie as tie
