@@ -15,7 +15,7 @@ use Rattle.hart.specs.declared.access.Accessed.{Accessed}
 use Rattle.translate.specs.Translated.{translated}
 use Rattle.layout.specs.Layout.{hartOf, step-size, stepWords, access-size, accessWords}
 use Rattle.layout.specs.Taken.{put}
-use Rattle.listing.specs.Listing.{translationWords}
+use Rattle.listing.specs.Listing.{translation-size, translationWords}
 use Rattle.listing.specs.Taken.{putKind, kindOf}
 
 -- an event on a hart's words
@@ -28,7 +28,7 @@ onAccess access h out = put (length h) access-size out (accessWords (access (har
 
 -- a translation, its kind of access given by number
 abbrev pub onTranslation : List ℕ → ℕ → List ℕ → (kind address width : ℕ) → List ℕ → ℕ × List ℕ
-onTranslation h base bytes kind address width out = putKind (length h) 67 kind out (translationWords (translated (hartOf h) base bytes (kindOf kind) address width))
+onTranslation h base bytes kind address width out = putKind (length h) translation-size kind out (translationWords (translated (hartOf h) base bytes (kindOf kind) address width))
 
 -- the place where a hart keeps the register with a number; `kept`, which is no place, where it keeps none
 abbrev pub placeOf : Found → ℕ

@@ -6,13 +6,13 @@ use native.Mathlib.Omega.{arith}
 use lib.ListN.{length, take, drop, drop-of-length-le}
 use lib.Seq.{sets, sets-eq, drop-at, length-take-le}
 use Rattle.stages.specs.declared.Read.{Read}
-use Rattle.stages.specs.Listed.{readWords}
+use Rattle.stages.specs.Listed.{places, readWords}
 use Rattle.stages.proofs.Words.{length-words}
 use Rattle.translate.specs.declared.Answer.{Answer}
-use Rattle.listing.specs.Listing.{answerWords}
+use Rattle.listing.specs.Listing.{list-at, translation-size, answerWords}
 
 -- the list, written behind the first seven words
-pub behind : (out : List ℕ) (rs : List Read) → length out ≡ 67 → length rs ≡ 15 → drop 7 (sets out 7 (readWords rs)) ≡ readWords rs
+pub behind : (out : List ℕ) (rs : List Read) → length out ≡ translation-size → length rs ≡ places → drop list-at (sets out list-at (readWords rs)) ≡ readWords rs
 behind out rs e n =
     let h : 7 + length (readWords rs) ≤ length out = omega (arith, length-words rs) in
     let past : length out ≤ 7 + length (readWords rs) = omega (arith, length-words rs) in

@@ -1,8 +1,8 @@
 -- The word layout of a translation: its answer and its list of reads.
 use mathlib.Core.List.{List, _∷_, _++_}
-use Prim.Native.Nat.{ℕ, _-_}
+use Prim.Native.Nat.{ℕ, _+_, _-_, _*_}
 use lib.ListN.{length, replicate}
-use Rattle.stages.specs.Listed.{readWords}
+use Rattle.stages.specs.Listed.{places, readWords}
 use Rattle.translate.specs.declared.Answer.{Answer}
 use Rattle.translate.specs.declared.Translated.{Translated}
 use Rattle.translate.specs.Translated.{values}
@@ -17,6 +17,13 @@ caseOf (Answer.Fault f) = 1
 abbrev pub answerWords : Answer → List ℕ
 answerWords x = caseOf x ∷ (values x ++ replicate (5 - length (values x)) 0)
 
--- A translation's result, 67 words: the answer, the count, and the fifteen places of the list, 4 words each.
+-- where the list begins: behind the answer and the count
+abbrev pub list-at : ℕ
+list-at = 7
+
+-- A translation's result: the answer, the count, and the places of the list, 4 words each.
+abbrev pub translation-size : ℕ
+translation-size = list-at + 4 * places
+
 unfoldable pub translationWords : Translated → List ℕ
 translationWords t = answerWords (t .answer) ++ (t .count ∷ readWords (t .reads))

@@ -3,13 +3,19 @@ ghost use mathlib.Core.Path.{_≡_};
 ghost use mathlib.Core.List.{[], _∷_, _++_};
 ghost use lib.ListN.{length, drop};
 ghost use lib.Seq.{sets};
-ghost use Rattle.listing.specs.Listing.{answerWords, translationWords};
+ghost use Rattle.listing.specs.Listing.{answerWords, translation-size, translationWords};
 ghost use Rattle.translate.specs.Translated.{translated};
 ghost use Rattle.listing.specs.Taken.{kindOf, putKind};
 use hart::state::Hart;
 use rules::Kind;
+use stages::PLACES;
 use translate::Answer;
 use translate::Start;
+
+// Where the list begins, and how many words a translation's result takes.
+const LIST_AT: usize = 7;
+
+pub const TRANSLATION: usize = LIST_AT + 4 * PLACES;
 
 // The kind of access with a number.
 fn kind_of(n: u64) -> Kind
@@ -26,7 +32,7 @@ fn kind_of(n: u64) -> Kind
 
 // The first seven words: what it came to, up to five words of it, and the count.
 fn put_seven(out: &mut [u64], to: u64, a: u64, b: u64, c: u64, d: u64, e: u64, count: u64)
-    requires { ⌜ length (now out) ≡ 67 ⌝ }
+    requires { ⌜ length (now out) ≡ translation-size ⌝ }
     ensures { λ _. ⌜ now (out .exit) ≡ sets (now (out .entry)) 0 (to ∷ a ∷ b ∷ c ∷ d ∷ e ∷ count ∷ []) ⌝ }
 {
     out[0] = to;
@@ -40,7 +46,7 @@ fn put_seven(out: &mut [u64], to: u64, a: u64, b: u64, c: u64, d: u64, e: u64, c
 
 // The answer and the count, before the list.
 fn put_answer(x: Answer, count: u64, out: &mut [u64])
-    requires { ⌜ length (now out) ≡ 67 ⌝ }
+    requires { ⌜ length (now out) ≡ translation-size ⌝ }
     ensures { λ _. ⌜ now (out .exit) ≡ answerWords x ++ (count ∷ drop 7 (now (out .entry))) ⌝ }
 {
     match x {
@@ -72,17 +78,17 @@ fn translate_into(
     width: u64,
     out: &mut [u64],
 )
-    requires { ⌜ length (now out) ≡ 67 ⌝ }
+    requires { ⌜ length (now out) ≡ translation-size ⌝ }
     ensures { λ _. ⌜ now (out .exit) ≡ translationWords (translated h base (now (bytes .entry)) kind address width) ⌝ }
 {
     let s = translate::starts(h, base, bytes.len() as u64, kind, address, width);
     match s {
         Start::Answered(x) => {
-            engine::clear(7, 67, &mut *out);
+            engine::clear(LIST_AT, TRANSLATION, &mut *out);
             put_answer(x, 0, &mut *out);
         }
         Start::Walks(a) => {
-            let w = engine::list(base, bytes, a, 15, 7, &mut *out);
+            let w = engine::list(base, bytes, a, PLACES, LIST_AT, &mut *out);
             let count = w.count;
             let reached = w.reached;
             put_answer(translate::answered(reached), count as u64, &mut *out);
@@ -102,12 +108,12 @@ pub fn put_translation(
     width: u64,
     out: &mut [u64],
 ) -> u64
-    ensures { λ r. ⌜ (r, now (out .exit)) ≡ putKind given 67 kind (now (out .entry)) (translationWords (translated h base (now (bytes .entry)) (kindOf kind) address width)) ⌝ }
+    ensures { λ r. ⌜ (r, now (out .exit)) ≡ putKind given translation-size kind (now (out .entry)) (translationWords (translated h base (now (bytes .entry)) (kindOf kind) address width)) ⌝ }
 {
     if given != layout::HART {
         return 1;
     }
-    if out.len() != 67 {
+    if out.len() != TRANSLATION {
         return 1;
     }
     if kind > 2 {

@@ -90,7 +90,7 @@ fn write(t: Translated) {
     let reads = t.reads;
     let count = t.count;
     let mut i: usize = 0;
-    while i < 15 {
+    while i < stages::PLACES {
         if i < count {
             write_read(reads[i]);
         }

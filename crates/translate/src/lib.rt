@@ -26,7 +26,7 @@ pub enum Start {
 pub struct Translated {
     pub hart: Hart,
     pub answer: Answer,
-    pub reads: [Read; 15],
+    pub reads: [Read; stages::PLACES],
     pub count: usize,
 }
 

@@ -7,7 +7,7 @@ use denote.Ref.{now}
 use borrow.Author.Needs.{needs}
 use Rattle.stages.specs.Tree.{run}
 use Rattle.stages.specs.Stages.{look, walkOf}
-use Rattle.stages.specs.Listed.{unused, padded}
+use Rattle.stages.specs.Listed.{places, unused, padded}
 use Rattle.stages.proofs.Bounds.{at-most}
 use Rattle.stages.proofs.Words.{length-padded}
 use Rattle.engine.proofs.Places.{fifteen}
@@ -29,7 +29,7 @@ unfolding translationWords
 returns c =
     let a = c .before .before .before .before .before .before .before .before .before .before .before .before .before .before .args in
     rw (at-once (a .h) (a .base) (now (a .bytes)) (a .kind) (a .address) (a .width) _ (sym (c .before .before .before .before .before .before .before .before .before .before .before .starts .ensures) ∙ c .before .before .before .before .before .before .before .before .before .s .given .1), c .before .before .put-answer .ensures, c .before .before .before .before .before .before .clear .ensures)
-    (ap (λ (ws : List ℕ). answerWords (c .before .before .before .before .before .before .before .before .before .s .given .0 .0) ++ (0 ∷ ws)) (behind (now (a .out)) (unused 15) (c .before .before .before .before .before .before .before .before .before .before .before .before .before .before .pre) refl))
+    (ap (λ (ws : List ℕ). answerWords (c .before .before .before .before .before .before .before .before .before .s .given .0 .0) ++ (0 ∷ ws)) (behind (now (a .out)) (unused places) (c .before .before .before .before .before .before .before .before .before .before .before .before .before .before .pre) refl))
 
 returns-2 : tie.Need-returns-2
 unfolding translationWords
@@ -39,9 +39,9 @@ returns-2 c =
     let w = walking (a .h) (a .base) (now (a .bytes)) (a .kind) (a .address) (a .width) x (sym (c .before .before .before .before .before .before .before .before .before .before .before .before .starts .ensures) ∙ c .before .before .before .before .before .before .before .before .before .before .s2 .given .1) in
     let r = c .before .before .before .before .before .before .before .list .ensures in
     let R = run (look (a .base) (now (a .bytes))) (walkOf (a .base) (length (now (a .bytes))) x) in
-    let few : length (R .reads) ≤ 15 = omega (arith, at-most x (a .base) (length (now (a .bytes))) (look (a .base) (now (a .bytes))), fifteen x (w .first) (w .second)) in
+    let few : length (R .reads) ≤ places = omega (arith, at-most x (a .base) (length (now (a .bytes))) (look (a .base) (now (a .bytes))), fifteen x (w .first) (w .second)) in
     rw (w .translates, c .before .before .put-answer2 .ensures, c .before .before .before .before .answered .ensures, r .end, r .count, r .words)
-    (ap (λ (ws : List ℕ). answerWords (answer (R .end)) ++ (length (R .reads) ∷ ws)) (behind (now (a .out)) (padded 15 (R .reads)) (c .before .before .before .before .before .before .before .before .before .before .before .before .before .before .before .pre) (length-padded 15 (R .reads) few)))
+    (ap (λ (ws : List ℕ). answerWords (answer (R .end)) ++ (length (R .reads) ∷ ws)) (behind (now (a .out)) (padded places (R .reads)) (c .before .before .before .before .before .before .before .before .before .before .before .before .before .before .before .pre) (length-padded places (R .reads) few)))
 
 pub translate-into-spec : {M : Type 1} → statement M
 translate-into-spec =

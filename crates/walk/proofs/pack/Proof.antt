@@ -5,21 +5,22 @@ use lib.ListN.{length, drop, length-set}
 use lib.Seq.{sets}
 use denote.Ref.{now}
 use borrow.Author.Needs.{needs}
+use Rattle.stages.specs.Listed.{places}
 use Rattle.walk.specs.Walked.{unpack}
 use Rattle.walk.proofs.Packs.{packs, packs-all, filled}
 use Rattle.walk.proofs.pack.Statement.{statement}
 use Rattle.walk.proofs.pack.Tie as tie
 
 abbrev Inv-loop : tie.InvT-loop
-Inv-loop words reads₀ i₀ reads i = (i ≤ 15) × (length words ≡ 60) × (length reads ≡ 15) × (sets reads i (unpack (drop (4 * i) words)) ≡ unpack words)
+Inv-loop words reads₀ i₀ reads i = (i ≤ places) × (length words ≡ 4 * places) × (length reads ≡ places) × (sets reads i (unpack (drop (4 * i) words)) ≡ unpack words)
 
 abbrev μ-loop : tie.MeasureT-loop
-μ-loop words reads₀ i₀ reads i = 15 - i
+μ-loop words reads₀ i₀ reads i = places - i
 
 loop-holds : tie.Need-loop-holds Inv-loop μ-loop
 loop-holds c =
-    let n : length (c .none .result) ≡ 15 = ap length (c .none .ensures) in
-    (omega arith, c .before .before .pre, n, filled (c .none .result) (now (c .before .before .args .words)) 15 n (c .before .before .pre))
+    let n : length (c .none .result) ≡ places = ap length (c .none .ensures) in
+    (omega arith, c .before .before .pre, n, filled (c .none .result) (now (c .before .before .args .words)) places n (c .before .before .pre))
 
 loop-again : tie.Need-loop-again Inv-loop μ-loop
 loop-again c =

@@ -8,6 +8,7 @@ use Rattle.stages.specs.Stages.{look, walkOf}
 use Rattle.stages.proofs.Bounds.{at-most}
 use Rattle.second_stage.specs.Words.{reached}
 use Rattle.engine.proofs.Places.{fifteen}
+use Rattle.stages.specs.Listed.{places}
 use Rattle.walk.specs.Walked.{unpack}
 use Rattle.walk.proofs.Packs.{handed, same-reached}
 use Rattle.walk.proofs.walk.Statement.{statement}
@@ -25,7 +26,7 @@ returns c =
     let w = c .before .before .before .list in
     let R = run (look (a .base) (now (a .bytes))) (walkOf (a .base) (length (now (a .bytes))) (a .a)) in
     let few = at-most (a .a) (a .base) (length (now (a .bytes))) (look (a .base) (now (a .bytes))) in
-    let rs = c .pack .ensures ∙ ap unpack (w .ensures .words) ∙ handed _ 15 (R .reads) refl (omega (arith, few, fifteen (a .a) (p .2) (p .3))) in
+    let rs = c .pack .ensures ∙ ap unpack (w .ensures .words) ∙ handed _ places (R .reads) refl (omega (arith, few, fifteen (a .a) (p .2) (p .3))) in
     let end = sym (same-reached (w .result .reached)) ∙ ap reached (w .ensures .end) in
     rw (rs, w .ensures .count, end)
 
