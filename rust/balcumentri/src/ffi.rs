@@ -11,6 +11,8 @@ pub const KEPT: usize = 27;
 pub const HART: usize = 3 + KEPT;
 pub const STEP: usize = HART + 2;
 pub const ACCESS: usize = STEP + 1;
+/// How many places the list of reads has.
+pub const PLACES: usize = 15;
 
 /// A hart's words.
 pub type HartWords = [u64; HART];
@@ -18,7 +20,7 @@ pub type HartWords = [u64; HART];
 pub type StepWords = [u64; STEP];
 /// A register access's result.
 pub type AccessWords = [u64; ACCESS];
-/// A translation's result: 67 words, by name.
+/// A translation's result, by name.
 #[derive(Clone, Copy, Debug, Default)]
 #[repr(C)]
 pub struct TranslationWords {
@@ -29,10 +31,10 @@ pub struct TranslationWords {
     pub word: u64,
     pub flag: u64,
     pub count: u64,
-    pub places: [Read; 15],
+    pub places: [Read; PLACES],
 }
 
-const TRANSLATION_WORDS: usize = 67;
+const TRANSLATION_WORDS: usize = 7 + 4 * PLACES;
 const _: () = assert!(size_of::<TranslationWords>() == 8 * TRANSLATION_WORDS);
 
 /// A call of the face that takes a hart and writes an event's result.
@@ -137,7 +139,7 @@ pub fn translate_into(
 ) {
     let words: *mut TranslationWords = out;
     // SAFETY: hart, the bytes and out are lent for the call, each with its own length; out is lent mutably, so it overlaps neither.
-    // It is 67 words by its layout and the assertion on its size, and any words are a value of it.
+    // It is so many words by its layout and the assertion on its size, and any words are a value of it.
     unsafe {
         balcumentri_translate(
             hart.as_ptr(),

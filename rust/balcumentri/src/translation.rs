@@ -1,6 +1,6 @@
 //! Translations: what goes in, and what comes back.
 
-use crate::ffi::TranslationWords;
+use crate::ffi::{TranslationWords, PLACES};
 
 /// A run of bytes from a machine address on. The model reads it and never writes it.
 #[derive(Clone, Copy, Debug)]
@@ -98,7 +98,7 @@ impl Translation {
     /// The entries, in the order in which they were read.
     #[inline]
     pub fn reads(&self) -> &[Read] {
-        let count = self.0.count.min(15) as usize;
+        let count = self.0.count.min(PLACES as u64) as usize;
         &self.0.places[..count]
     }
 }

@@ -3,10 +3,15 @@
 
 use balcumentri::{Access, Hart, Image, Kind};
 
+/// How many words a hart takes.
+pub const HART_WORDS: usize = 30;
+/// How many words a translation takes.
+pub const TRANSLATION_WORDS: usize = 67;
+
 /// A hart's words.
-pub type HartWords = [u64; 30];
+pub type HartWords = [u64; HART_WORDS];
 /// A translation's words.
-pub type TranslationWords = [u64; 67];
+pub type TranslationWords = [u64; TRANSLATION_WORDS];
 
 // The crate balcumentri links the library.
 extern "C" {
@@ -26,7 +31,7 @@ extern "C" {
 
 /// A hart's words, as include/balcumentri.h lists them.
 pub fn words(hart: &Hart) -> HartWords {
-    let mut words = [0; 30];
+    let mut words = [0; HART_WORDS];
     words[..3].copy_from_slice(&[hart.v(), hart.privilege(), hart.pc()]);
     for (place, word) in words[3..].iter_mut().enumerate() {
         let number = balcumentri::number(place);

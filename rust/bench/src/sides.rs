@@ -1,6 +1,6 @@
 //! The sides of the comparison: that they answer alike, and how long each takes.
 
-use crate::call::{self, HartWords, TranslationWords};
+use crate::call::{self, HartWords, TranslationWords, TRANSLATION_WORDS};
 use crate::cases::Case;
 use crate::plain;
 use balcumentri::{Access, Answer, Fault, Image, Read, Translation};
@@ -60,7 +60,7 @@ impl<'a> Prepared<'a> {
         let image = case.image();
         // kept over all accesses, so that nothing of one may stay in the next
         let mut plain = plain::Translation::default();
-        let mut words = [!0; 67];
+        let mut words = [!0; TRANSLATION_WORDS];
         let mut kept = Translation::default();
         for &access in &case.accesses {
             plain::translate(&self.words, image, access, &mut plain);
@@ -101,7 +101,7 @@ impl<'a> Prepared<'a> {
                 });
             }
             Side::Call => {
-                let mut kept = [0; 67];
+                let mut kept = [0; TRANSLATION_WORDS];
                 self.each(times, |image, access| {
                     call::translate(black_box(&self.words), image, access, &mut kept);
                     black_box(&kept);
@@ -154,7 +154,7 @@ pub fn same(
 
 /// A translation's words, as include/balcumentri.h lists them: every place of the list counts.
 pub fn words_of(translation: &plain::Translation) -> TranslationWords {
-    let mut words = [0; 67];
+    let mut words = [0; TRANSLATION_WORDS];
     let start = match translation.answer {
         Answer::Address(address) => [0, address, 0, 0, 0, 0],
         Answer::Refused(number) => [2, number, 0, 0, 0, 0],

@@ -204,7 +204,7 @@ fn images_and_accesses_at_the_limits() {
 }
 
 fn words_of_second(hart: &second::hart::Hart) -> HartWords {
-    let mut words = [0; 30];
+    let mut words = [0; call::HART_WORDS];
     words[..3].copy_from_slice(&[hart.v, hart.privilege, hart.pc]);
     for (place, word) in words[3..].iter_mut().enumerate() {
         let number = balcumentri::number(place).unwrap();
