@@ -25,9 +25,13 @@ effective h kind =
     (record { v = not (eqb (get MPP (reg h mstatus)) 3) && isSet MPV (reg h mstatus); privilege = get MPP (reg h mstatus) })
     (record { v = eqb (h .v) 1; privilege = h .privilege })
 
--- MODE 8 is Sv39, and Sv39x4 in hgatp, of three levels; Bare has none
+-- "its MODE isn't Bare": Bare is 0
+abbrev pub isBare : ℕ → Bool
+isBare x = eqb (get MODE x) 0
+
+-- a stage in Bare has none; "top level, 2 here": Sv39 and Sv39x4 have three
 abbrev pub levels : ℕ → ℕ
-levels x = pick (eqb (get MODE x) 8) 3 0
+levels x = pick (isBare x) 0 3
 
 -- "the table at its register's PPN"
 abbrev pub root : ℕ → Root

@@ -37,7 +37,7 @@ fn tables(x: u64) -> Root
     ensures { λ r. ⌜ r ≡ root x ⌝ }
 {
     Root {
-        levels: bits::select(fields::MODE.get(x) == 8, 3, 0),
+        levels: bits::select(fields::MODE.get(x) == 0, 0, 3),
         ppn: fields::PPN.get(x),
     }
 }

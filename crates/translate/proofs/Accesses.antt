@@ -8,10 +8,10 @@ use lib.Bits.{bitAnd, and-mask}
 use lib.Dec.{eqb}
 use lib.ListN.{length}
 use borrow.Author.Tests.{eqb-true, not-false}
-use Rattle.bits.specs.Field.{pick, get}
+use Rattle.bits.specs.Field.{pick}
 use Rattle.bits.proofs.Bools.{clash, pick-both, or-true, or-false, or-left, or-right}
 use Rattle.bits.proofs.Fields.{get-lt}
-use Rattle.registers.specs.Fields.{MODE, PPN}
+use Rattle.registers.specs.Fields.{PPN}
 use Rattle.registers.specs.Places.{satp, vsatp, hgatp}
 use Rattle.hart.specs.declared.state.Hart.{Hart}
 use Rattle.hart.specs.Hart.{reg, passes}
@@ -29,7 +29,7 @@ use Rattle.stages.specs.Stages.{Result, yields, faults, look, walkOf}
 use Rattle.second_stage.specs.Place.{Tables}
 use Rattle.second_stage.specs.Words.{reached, result}
 use Rattle.effective.specs.declared.Mode.{Mode}
-use Rattle.effective.specs.Effective.{effective, root, off, firstRoot, secondRoot, accessOf}
+use Rattle.effective.specs.Effective.{effective, isBare, root, off, firstRoot, secondRoot, accessOf}
 use Rattle.translate.specs.declared.Answer.{Answer}
 use Rattle.translate.specs.declared.Translated.{Translated}
 use Rattle.translate.specs.declared.Start.{Start}
@@ -107,7 +107,7 @@ pub record Three (r : Root) : Type 0 where
   pub ppn : r .ppn < 2 ^ 44
 
 three-root : (x : ℕ) → Three (root x)
-three-root x = record { levels = pick-both (λ (n : ℕ). n ≤ 3) (eqb (get MODE x) 8) 3 0 (λ e. omega arith) (λ e. omega arith); ppn = get-lt PPN x }
+three-root x = record { levels = pick-both (λ (n : ℕ). n ≤ 3) (isBare x) 0 3 (λ e. omega arith) (λ e. omega arith); ppn = get-lt PPN x }
 
 three-off : Three off
 three-off = record { levels = omega arith; ppn = omega arith }
