@@ -1,7 +1,7 @@
 -- The rules of one entry, from the code's tests under masks. Assumes nothing.
 use mathlib.Core.Path.{_≡_, refl, sym, ap, ap₂, _∙_}
 use mathlib.Core.Bool.{Bool, true, false, _&&_, _||_, not}
-use mathlib.Core.List.{List, [], _∷_}
+use mathlib.Core.List.{List, [], _∷_, map}
 use Prim.Native.Nat.{ℕ, _+_, _-_, _*_, _/_, _%_, _^_, _<_}
 use native.Mathlib.Omega.{arith}
 use native.Mathlib.Nat.{div-one, mul-mod-left}
@@ -22,7 +22,7 @@ use Rattle.rules.specs.declared.Judgement.{Judgement}
 use Rattle.rules.specs.declared.Judgement.the-variants.{Pointer, Leaf, Bad}
 use Rattle.rules.specs.Right.{byRight}
 use Rattle.rules.specs.Entry.{«V», R, W, X, U, A, D, lowPPN, admitted, granted, malformed, badPointer, badLeaf, faulty, target, offset, judged}
-use Rattle.rules.specs.Test.{asked, testOf}
+use Rattle.rules.specs.Test.{asked, rights, testOf}
 use Rattle.rules.proofs.Indices.{offset-lt}
 
 abbrev high : ℕ → Bool
@@ -83,15 +83,18 @@ asked-of n e = go (n .right) (n .user) (helped n)
     go Execute false false = tested (asked (needs Execute false false false)) refl refl e ∙ simp (and-true, or-false, clear U e)
 
 -- the right: one of these bits
+none-of : Need → List Assignment
+none-of n = map (λ f. f := 0) (rights n)
+
 some-of : (n : Need) (e : ℕ) → not (eqb (bitAnd e (testOf n .some)) 0) ≡ granted n e
-unfolding get put testOf
+unfolding get put testOf none-of
 some-of n e = go (n .right) (n .mxr)
   where
     go : (r : Right) (mxr : Bool) → let m = needs r true false mxr in not (eqb (bitAnd e (testOf m .some)) 0) ≡ granted m e
-    go Read true = ap not (tested (bit R := 0 ∷ bit X := 0 ∷ []) refl refl e) ∙ simp (and-true, clear R e, clear X e) (either (has R e) (has X e))
-    go Read false = ap not (tested (bit R := 0 ∷ []) refl refl e) ∙ simp (and-true, and-false, or-false, clear R e, not-not)
-    go Write mxr = ap not (tested (bit W := 0 ∷ []) refl refl e) ∙ simp (and-true, clear W e, not-not)
-    go Execute mxr = ap not (tested (bit X := 0 ∷ []) refl refl e) ∙ simp (and-true, clear X e, not-not)
+    go Read true = ap not (tested (none-of (needs Read true false true)) refl refl e) ∙ simp (and-true, clear R e, clear X e) (either (has R e) (has X e))
+    go Read false = ap not (tested (none-of (needs Read true false false)) refl refl e) ∙ simp (and-true, and-false, or-false, clear R e, not-not)
+    go Write mxr = ap not (tested (none-of (needs Write true false mxr)) refl refl e) ∙ simp (and-true, clear W e, not-not)
+    go Execute mxr = ap not (tested (none-of (needs Execute true false mxr)) refl refl e) ∙ simp (and-true, clear X e, not-not)
 
 -- the test as the code makes it
 abbrev pub coded : Right → (user sum mxr : Bool) → Test
