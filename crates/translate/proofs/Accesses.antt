@@ -28,7 +28,7 @@ use Rattle.stages.specs.Tree.{run}
 use Rattle.stages.specs.Stages.{Result, yields, faults, look, walkOf}
 use Rattle.second_stage.specs.Place.{Tables}
 use Rattle.second_stage.specs.Words.{reached, result}
-use Rattle.effective.specs.declared.Mode.{Mode}
+use Rattle.effective.specs.declared.EffectiveMode.{EffectiveMode}
 use Rattle.effective.specs.Effective.{effective, isBare, root, off, firstRoot, secondRoot, accessOf}
 use Rattle.translate.specs.declared.Answer.{Answer}
 use Rattle.translate.specs.declared.Translated.{Translated}
@@ -112,13 +112,13 @@ three-root x = record { levels = pick-both (λ (n : ℕ). n ≤ 3) (isBare x) 0 
 three-off : Three off
 three-off = record { levels = omega arith; ppn = omega arith }
 
-pub first-three : (h : Hart) (m : Mode) → Three (firstRoot h m)
+pub first-three : (h : Hart) (m : EffectiveMode) → Three (firstRoot h m)
 unfolding firstRoot
 first-three h m =
     pick-both Three (m .v) (root (reg h vsatp)) (pick (eqb (m .privilege) 3) off (root (reg h satp))) (λ e. three-root (reg h vsatp))
     (λ e. pick-both Three (eqb (m .privilege) 3) off (root (reg h satp)) (λ e. three-off) (λ e. three-root (reg h satp)))
 
-pub second-three : (h : Hart) (m : Mode) → Three (secondRoot h m)
+pub second-three : (h : Hart) (m : EffectiveMode) → Three (secondRoot h m)
 unfolding secondRoot
 second-three h m = pick-both Three (m .v) (root (reg h hgatp)) off (λ e. three-root (reg h hgatp)) (λ e. three-off)
 
