@@ -29,17 +29,13 @@ effective h kind =
 abbrev pub isBare : ℕ → Bool
 isBare x = eqb (get MODE x) 0
 
--- a stage in Bare has none; "top level, 2 here": Sv39 and Sv39x4 have three
-abbrev pub levels : ℕ → ℕ
-levels x = pick (isBare x) 0 3
-
--- "the table at its register's PPN"
-abbrev pub root : ℕ → Root
-root x = record { levels = levels x; ppn = get PPN x }
-
--- a stage that is not walked
+-- the tables of a stage that is off
 abbrev pub off : Root
 off = record { levels = 0; ppn = 0 }
+
+-- Those of satp, vsatp or hgatp: "its top level, 2 here", so three levels, "with the table at its register's PPN".
+abbrev pub root : ℕ → Root
+root x = pick (isBare x) off (record { levels = 3; ppn = get PPN x })
 
 -- "M, or stages in Bare, pass the address on. V=0 walks satp alone; V=1 walks vsatp, then hgatp."
 unfoldable pub firstRoot : Hart → EffectiveMode → Root

@@ -32,21 +32,24 @@ fn effective_mode(h: Hart, kind: Kind) -> EffectiveMode
     }
 }
 
-// The tables of satp, vsatp or hgatp.
-fn tables(x: u64) -> Root
-    ensures { λ r. ⌜ r ≡ root x ⌝ }
-{
-    Root {
-        levels: bits::select(fields::MODE.get(x) == 0, 0, 3),
-        ppn: fields::PPN.get(x),
-    }
-}
-
 // The tables of a stage that is off.
 fn off() -> Root
     ensures { λ r. ⌜ r ≡ off ⌝ }
 {
     Root { levels: 0, ppn: 0 }
+}
+
+// The tables of satp, vsatp or hgatp.
+fn tables(x: u64) -> Root
+    ensures { λ r. ⌜ r ≡ root x ⌝ }
+{
+    if fields::MODE.get(x) == 0 {
+        return off();
+    }
+    Root {
+        levels: 3,
+        ppn: fields::PPN.get(x),
+    }
 }
 
 fn first(h: Hart, m: EffectiveMode) -> Root

@@ -106,11 +106,11 @@ pub record Three (r : Root) : Type 0 where
   pub levels : r .levels ≤ 3
   pub ppn : r .ppn < 2 ^ 44
 
-three-root : (x : ℕ) → Three (root x)
-three-root x = record { levels = pick-both (λ (n : ℕ). n ≤ 3) (isBare x) 0 3 (λ e. omega arith) (λ e. omega arith); ppn = get-lt PPN x }
-
 three-off : Three off
 three-off = record { levels = omega arith; ppn = omega arith }
+
+three-root : (x : ℕ) → Three (root x)
+three-root x = pick-both Three (isBare x) off _ (λ e. three-off) (λ e. record { levels = omega arith; ppn = get-lt PPN x })
 
 pub first-three : (h : Hart) (m : EffectiveMode) → Three (firstRoot h m)
 unfolding firstRoot
