@@ -47,7 +47,7 @@ abbrev needs : Right → (user sum mxr : Bool) → Need
 needs r user sum mxr = record { right = r; fetch = false; user = user; sum = sum; mxr = mxr }
 
 -- SUM as it helps a need: a fetch it does not help, so that any need's tests are those of data with this
-abbrev helped : Need → Bool
+abbrev pub helped : Need → Bool
 helped n = not (n .fetch) && n .sum
 
 -- ---- a pointer
@@ -105,7 +105,7 @@ coded r user sum mxr =
       some = byRight r (pick mxr 0x0A 0x02) 0x04 0x08;
     }
 
-pub test-code : (n : Need) → testOf n ≡ coded (n .right) (n .user) (not (n .fetch) && n .sum) (n .mxr)
+pub test-code : (n : Need) → testOf n ≡ coded (n .right) (n .user) (helped n) (n .mxr)
 unfolding put testOf
 test-code n = go (n .right) (n .user) (helped n) (n .mxr)
   where

@@ -1,7 +1,7 @@
 -- What is asked of a leaf, as tests of its bits under masks: how the code judges an entry. Serves contracts below the public face.
 use mathlib.Core.Path.{_≡_}
-use mathlib.Core.List.{List, [], _∷_, _++_, map}
 use mathlib.Core.Bool.{_&&_, not}
+use mathlib.Core.List.{List, [], _∷_, _++_, map}
 use Prim.Native.Nat.{ℕ}
 use Rattle.bits.specs.declared.Field.{Field}
 use Rattle.bits.specs.Field.{pick, span, bit, bits}
