@@ -1,17 +1,29 @@
 -- What an access asks of a leaf at each stage.
-use mathlib.Core.Bool.{true, false}
+use mathlib.Core.Bool.{Bool, true, false}
+use Rattle.rules.specs.declared.Kind.{Kind}
 use Rattle.rules.specs.declared.Kind.the-variants.{Load}
+use Rattle.rules.specs.declared.Right.{Right}
+use Rattle.rules.specs.declared.Right.the-variants.{Read, Write, Execute}
 use Rattle.rules.specs.declared.Need.{Need}
+use Rattle.rules.specs.Kind.{by}
 use Rattle.access.specs.declared.Access.{Access}
 
--- At the first stage: the access's own kind and mode, and the SUM and MXR that count there.
+-- "Loads need R, or X with MXR; stores need W, fetches X.": the right that is a kind's own (`granted` of rules says what grants it)
+abbrev pub rightOf : Kind → Right
+rightOf kind = by kind Execute Read Write
+
+-- what a kind of access needs, for a user or not, with the SUM and MXR that count
+abbrev pub needOf : Kind → (user sum mxr : Bool) → Need
+needOf kind user sum mxr = record { right = rightOf kind; fetch = by kind true false false; user = user; sum = sum; mxr = mxr }
+
+-- At the first stage: the access's own mode, and the SUM and MXR that count there.
 abbrev pub firstNeed : Access → Need
-firstNeed a = record { kind = a .kind; user = a .user; sum = a .sum; mxr = a .mxr }
+firstNeed a = needOf (a .kind) (a .user) (a .sum) (a .mxr)
 
 -- "Second stage: always U=1; MXR is mstatus's only."
 abbrev pub secondNeed : Access → Need
-secondNeed a = record { kind = a .kind; user = true; sum = false; mxr = a .mmxr }
+secondNeed a = needOf (a .kind) true false (a .mmxr)
 
 -- "The hart's reads of guest entries go through the second stage as reads, need R, and MXR doesn't help."
 abbrev pub entryNeed : Need
-entryNeed = record { kind = Load; user = true; sum = false; mxr = false }
+entryNeed = needOf Load true false false

@@ -1,11 +1,12 @@
 // An access: what it asks of each stage, and its faults.
 ghost use mathlib.Core.Path.{_≡_};
 ghost use Rattle.rules.specs.Kind.{by};
-ghost use Rattle.access.specs.Needs.{firstNeed, secondNeed, entryNeed};
+ghost use Rattle.access.specs.Needs.{rightOf, needOf, firstNeed, secondNeed, entryNeed};
 ghost use Rattle.access.specs.Faults.{raised, misalignment, accessFault, pageFault, guestPageFault, entryFault};
 use exceptions::Exception;
 use rules::Kind;
 use rules::Need;
+use rules::Right;
 
 // A guest physical address: where a first-stage entry is, and what the first stage yields. Only the second stage, also when
 // off, makes a machine address of it.
@@ -45,16 +46,40 @@ fn cause(kind: Kind, fetch: u64, load: u64, store: u64) -> u64
     }
 }
 
+// The right that is a kind's own.
+fn right(kind: Kind) -> Right
+    ensures { λ r. ⌜ r ≡ rightOf kind ⌝ }
+{
+    match kind {
+        Kind::Fetch => Right::Execute,
+        Kind::Load => Right::Read,
+        Kind::Store => Right::Write,
+    }
+}
+
+// What a kind of access asks of a leaf.
+fn need(kind: Kind, user: bool, sum: bool, mxr: bool) -> Need
+    ensures { λ r. ⌜ r ≡ needOf kind user sum mxr ⌝ }
+{
+    Need {
+        right: right(kind),
+        fetch: kind.test(true, false, false),
+        user: user,
+        sum: sum,
+        mxr: mxr,
+    }
+}
+
 impl Access {
     // The fault whose cause is the access's own of three.
-    fn raise(self, fetch: u64, load: u64, store: u64, second: u64) -> Exception
-        ensures { λ r. ⌜ r ≡ raised self (by (self .kind) fetch load store) second 0 ⌝ }
+    fn raise(self, fetch: u64, load: u64, store: u64, value2: u64) -> Exception
+        ensures { λ r. ⌜ r ≡ raised self (by (self .kind) fetch load store) value2 0 ⌝ }
     {
         let kind = self.kind;
         Exception {
             cause: cause(kind, fetch, load, store),
             value: self.address,
-            second: second,
+            second: value2,
             word: 0,
             flag: self.v,
         }
@@ -103,12 +128,7 @@ impl Access {
         ensures { λ r. ⌜ r ≡ firstNeed self ⌝ }
     {
         let kind = self.kind;
-        Need {
-            kind: kind,
-            user: self.user,
-            sum: self.sum,
-            mxr: self.mxr,
-        }
+        need(kind, self.user, self.sum, self.mxr)
     }
 
     // What the access asks of the second stage.
@@ -116,12 +136,7 @@ impl Access {
         ensures { λ r. ⌜ r ≡ secondNeed self ⌝ }
     {
         let kind = self.kind;
-        Need {
-            kind: kind,
-            user: true,
-            sum: false,
-            mxr: self.mmxr,
-        }
+        need(kind, true, false, self.mmxr)
     }
 }
 
@@ -129,10 +144,5 @@ impl Access {
 pub fn entry_need() -> Need
     ensures { λ r. ⌜ r ≡ entryNeed ⌝ }
 {
-    Need {
-        kind: Kind::Load,
-        user: true,
-        sum: false,
-        mxr: false,
-    }
+    need(Kind::Load, true, false, false)
 }

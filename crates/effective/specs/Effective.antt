@@ -12,45 +12,45 @@ use Rattle.rules.specs.declared.Kind.{Kind}
 use Rattle.rules.specs.Kind.{by}
 use Rattle.access.specs.declared.Access.{Access}
 use Rattle.access.specs.declared.Root.{Root}
-use Rattle.effective.specs.declared.Mode.{Mode}
+use Rattle.effective.specs.declared.EffectiveMode.{EffectiveMode}
 
 -- "in M with MPRV=1 a load or store uses MPP"
 abbrev pub usesMPP : Hart → Kind → Bool
 usesMPP h kind = isM (context h) && isSet MPRV (reg h mstatus) && by kind false true true
 
 -- "Effective mode: the hart's, but in M with MPRV=1 a load or store uses MPP, and MPV if MPP isn't 3."
-abbrev pub effective : Hart → Kind → Mode
+abbrev pub effective : Hart → Kind → EffectiveMode
 effective h kind =
     pick (usesMPP h kind)
     (record { v = not (eqb (get MPP (reg h mstatus)) 3) && isSet MPV (reg h mstatus); privilege = get MPP (reg h mstatus) })
     (record { v = eqb (h .v) 1; privilege = h .privilege })
 
--- MODE 8 is Sv39, and Sv39x4 in hgatp, of three levels; Bare has none
-abbrev pub levels : ℕ → ℕ
-levels x = pick (eqb (get MODE x) 8) 3 0
+-- "its MODE isn't Bare": Bare is 0
+abbrev pub isBare : ℕ → Bool
+isBare x = eqb (get MODE x) 0
 
--- "the table at its register's PPN"
-abbrev pub root : ℕ → Root
-root x = record { levels = levels x; ppn = get PPN x }
-
--- a stage that is not walked
+-- the tables of a stage that is off
 abbrev pub off : Root
 off = record { levels = 0; ppn = 0 }
 
+-- Those of satp, vsatp or hgatp: "its top level, 2 here", so three levels, "with the table at its register's PPN".
+abbrev pub root : ℕ → Root
+root x = pick (isBare x) off (record { levels = 3; ppn = get PPN x })
+
 -- "M, or stages in Bare, pass the address on. V=0 walks satp alone; V=1 walks vsatp, then hgatp."
-unfoldable pub firstRoot : Hart → Mode → Root
+unfoldable pub firstRoot : Hart → EffectiveMode → Root
 firstRoot h m = pick (m .v) (root (reg h vsatp)) (pick (eqb (m .privilege) 3) off (root (reg h satp)))
 
 -- "V=1 walks vsatp, then hgatp": with V=0 there is no second stage
-unfoldable pub secondRoot : Hart → Mode → Root
+unfoldable pub secondRoot : Hart → EffectiveMode → Root
 secondRoot h m = pick (m .v) (root (reg h hgatp)) off
 
 -- "SUM and MXR are vsstatus's when V=1, and mstatus.MXR counts too."
-abbrev pub ownStatus : Hart → Mode → ℕ
+abbrev pub ownStatus : Hart → EffectiveMode → ℕ
 ownStatus h m = pick (m .v) (reg h vsstatus) (reg h mstatus)
 
 -- the access as a mode makes it: user mode is privilege 0; "MXR is mstatus's only" at the second stage, so mmxr is kept apart
-abbrev pub inMode : Hart → Mode → Kind → ℕ → ℕ → Access
+abbrev pub inMode : Hart → EffectiveMode → Kind → ℕ → ℕ → Access
 inMode h m kind address width =
     record {
       kind = kind;

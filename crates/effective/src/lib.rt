@@ -9,69 +9,72 @@ use registers::places;
 use rules::Kind;
 
 // The mode that an access is made in.
-pub struct Mode {
+pub struct EffectiveMode {
     pub v: bool,
     pub privilege: u64,
 }
 
-fn effective_mode(h: Hart, kind: Kind) -> Mode
+fn effective_mode(h: Hart, kind: Kind) -> EffectiveMode
     ensures { λ r. ⌜ r ≡ effective h kind ⌝ }
 {
     let status = h.regs[places::MSTATUS];
     let data = kind.test(false, true, true);
     if h.context().is_m() & (fields::MPRV.get(status) == 1) & data {
         let mpp = fields::MPP.get(status);
-        return Mode {
+        return EffectiveMode {
             v: !(mpp == 3) & (fields::MPV.get(status) == 1),
             privilege: mpp,
         };
     }
-    Mode {
+    EffectiveMode {
         v: h.v == 1,
         privilege: h.privilege,
     }
+}
+
+// The tables of a stage that is off.
+fn off() -> Root
+    ensures { λ r. ⌜ r ≡ off ⌝ }
+{
+    Root { levels: 0, ppn: 0 }
 }
 
 // The tables of satp, vsatp or hgatp.
 fn tables(x: u64) -> Root
     ensures { λ r. ⌜ r ≡ root x ⌝ }
 {
+    if fields::MODE.get(x) == 0 {
+        return off();
+    }
     Root {
-        levels: bits::select(fields::MODE.get(x) == 8, 3, 0),
+        levels: 3,
         ppn: fields::PPN.get(x),
     }
 }
 
-// The tables of a stage that is off.
-pub fn bare() -> Root
-    ensures { λ r. ⌜ r ≡ off ⌝ }
-{
-    Root { levels: 0, ppn: 0 }
-}
-
-fn first(h: Hart, m: Mode) -> Root
+fn first(h: Hart, m: EffectiveMode) -> Root
     ensures { λ r. ⌜ r ≡ firstRoot h m ⌝ }
 {
     if m.v {
         return tables(h.regs[places::VSATP]);
     }
     if m.privilege == 3 {
-        return bare();
+        return off();
     }
     tables(h.regs[places::SATP])
 }
 
-fn second(h: Hart, m: Mode) -> Root
+fn second(h: Hart, m: EffectiveMode) -> Root
     ensures { λ r. ⌜ r ≡ secondRoot h m ⌝ }
 {
     if m.v {
         return tables(h.regs[places::HGATP]);
     }
-    bare()
+    off()
 }
 
 // The access in a mode.
-fn in_mode(h: Hart, m: Mode, kind: Kind, address: u64, width: u64) -> Access
+fn in_mode(h: Hart, m: EffectiveMode, kind: Kind, address: u64, width: u64) -> Access
     ensures { λ r. ⌜ r ≡ inMode h m kind address width ⌝ }
 {
     let status = h.regs[places::MSTATUS];

@@ -34,11 +34,11 @@ use Rattle.stages.specs.Stages.{Result, yields, faults, follow, inspect, down, 
 -- what a replay answers, and what it should
 pub record Replay : Type 0 where
   pub answer : ℕ
-  pub known : ℕ
+  pub expected : ℕ
 
 infix 70 _gives_
 abbrev _gives_ : ℕ → ℕ → Replay
-a gives k = record { answer = a; known = k }
+a gives k = record { answer = a; expected = k }
 
 -- all ones written to a register of a reset hart in M, and read back
 abbrev all-ones : ℕ → ℕ
@@ -99,6 +99,6 @@ replays =
     mret stays .hart .v gives 0 ∷  -- MRET stays in M
     mret stays .hart .privilege gives 3 ∷ []
 
-pub known : every (λ i (r : Replay). eqb (r .answer) (r .known)) 0 replays ≡ true
+pub known : every (λ i (r : Replay). eqb (r .answer) (r .expected)) 0 replays ≡ true
 unfolding every get put legal stored firstAt registersPass passes deliveredM deliveredHS deliveredVS delivered settled returnedM mret written accessRow access firstRoot secondRoot accessOf run bind walkOf final begin down inspect follow index extended small judged malformed badPointer badLeaf faulty
 known = refl

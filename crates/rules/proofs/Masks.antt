@@ -1,7 +1,7 @@
 -- The rules of one entry, from the code's tests under masks. Assumes nothing.
 use mathlib.Core.Path.{_≡_, refl, sym, ap, ap₂, _∙_}
 use mathlib.Core.Bool.{Bool, true, false, _&&_, _||_, not}
-use mathlib.Core.List.{List, [], _∷_}
+use mathlib.Core.List.{List, [], _∷_, map}
 use Prim.Native.Nat.{ℕ, _+_, _-_, _*_, _/_, _%_, _^_, _<_}
 use native.Mathlib.Omega.{arith}
 use native.Mathlib.Nat.{div-one, mul-mod-left}
@@ -14,15 +14,15 @@ use Rattle.bits.specs.Assign.{Assignment, _:=_}
 use Rattle.bits.proofs.Bools.{same-test, and-false, and-true, or-true, or-false, clash}
 use Rattle.bits.proofs.Shifts.{one-up}
 use Rattle.bits.proofs.Tested.{field-mask, tested, clear}
-use Rattle.rules.specs.Kind.{by}
-use Rattle.rules.specs.declared.Kind.{Kind}
-use Rattle.rules.specs.declared.Kind.the-variants.{Fetch, Load, Store}
+use Rattle.rules.specs.declared.Right.{Right}
+use Rattle.rules.specs.declared.Right.the-variants.{Read, Write, Execute}
 use Rattle.rules.specs.declared.Need.{Need}
 use Rattle.rules.specs.declared.Test.{Test}
 use Rattle.rules.specs.declared.Judgement.{Judgement}
 use Rattle.rules.specs.declared.Judgement.the-variants.{Pointer, Leaf, Bad}
+use Rattle.rules.specs.Right.{byRight}
 use Rattle.rules.specs.Entry.{«V», R, W, X, U, A, D, lowPPN, admitted, granted, malformed, badPointer, badLeaf, faulty, target, offset, judged}
-use Rattle.rules.specs.Test.{asked, testOf}
+use Rattle.rules.specs.Test.{asked, rights, testOf}
 use Rattle.rules.proofs.Indices.{offset-lt}
 
 abbrev high : ℕ → Bool
@@ -37,14 +37,18 @@ either true b = refl
 either false true = refl
 either false false = refl
 
-store-only : (k : Kind) (d : Bool) → not (by k true true d) ≡ by k false false (not d)
-store-only Fetch d = refl
-store-only Load d = refl
-store-only Store d = refl
+write-only : (r : Right) (d : Bool) → not (byRight r true d true) ≡ byRight r false (not d) false
+write-only Read d = refl
+write-only Write d = refl
+write-only Execute d = refl
 
--- the need with these parts
-abbrev needs : Kind → (user sum mxr : Bool) → Need
-needs k user sum mxr = record { kind = k; user = user; sum = sum; mxr = mxr }
+-- the need of data with these parts
+abbrev needs : Right → (user sum mxr : Bool) → Need
+needs r user sum mxr = record { right = r; fetch = false; user = user; sum = sum; mxr = mxr }
+
+-- SUM as it helps a need: a fetch it does not help, so that any need's tests are those of data with this
+abbrev pub helped : Need → Bool
+helped n = not (n .fetch) && n .sum
 
 -- ---- a pointer
 
@@ -61,45 +65,63 @@ pointer-test e = tested pointer-fields refl refl e ∙ rw (clear R e, clear W e,
 
 -- ---- a leaf
 
--- the test as the code makes it
-pub test-code : (k : Kind) (user sum mxr : Bool) → testOf (needs k user sum mxr) ≡ record {
-  mask = bitOr (bitOr 0xFFC0000000000041 (pick (by k false false true) 0x80 0)) (pick (user || not (by k false sum sum)) 0x10 0);
-  bits = bitOr (bitOr 0x41 (pick (by k false false true) 0x80 0)) (pick user 0x10 0);
-  some = pick (by k true false false) 0x08 (pick (by k false true false) (pick mxr 0x0A 0x02) 0x04);
-}
-unfolding put testOf
-test-code Fetch true sum mxr = refl
-test-code Fetch false sum mxr = refl
-test-code Load true sum true = refl
-test-code Load true sum false = refl
-test-code Load false true true = refl
-test-code Load false true false = refl
-test-code Load false false true = refl
-test-code Load false false false = refl
-test-code Store true sum mxr = refl
-test-code Store false true mxr = refl
-test-code Store false false mxr = refl
-
 -- what a leaf has under the mask
-asked-of : (k : Kind) (user sum mxr : Bool) (e : ℕ)
-    → let n = needs k user sum mxr in eqb (bitAnd e (testOf n .mask)) (testOf n .bits) ≡ (has «V» e && (has A e && (high e && (by k true true (has D e) && admitted n e))))
+asked-of : (n : Need) (e : ℕ) → eqb (bitAnd e (testOf n .mask)) (testOf n .bits) ≡ (has «V» e && (has A e && (high e && (byRight (n .right) true (has D e) true && admitted n e))))
 unfolding get put testOf
-asked-of Fetch true sum mxr e = tested (asked (needs Fetch true sum mxr)) refl refl e ∙ simp and-true
-asked-of Fetch false sum mxr e = tested (asked (needs Fetch false sum mxr)) refl refl e ∙ simp (and-true, or-false, clear U e)
-asked-of Load true sum mxr e = tested (asked (needs Load true sum mxr)) refl refl e ∙ simp and-true
-asked-of Load false false mxr e = tested (asked (needs Load false false mxr)) refl refl e ∙ simp (and-true, or-false, clear U e)
-asked-of Load false true mxr e = tested (asked (needs Load false true mxr)) refl refl e ∙ simp (and-true, or-true)
-asked-of Store true sum mxr e = tested (asked (needs Store true sum mxr)) refl refl e ∙ simp and-true
-asked-of Store false false mxr e = tested (asked (needs Store false false mxr)) refl refl e ∙ simp (and-true, or-false, clear U e)
-asked-of Store false true mxr e = tested (asked (needs Store false true mxr)) refl refl e ∙ simp (and-true, or-true)
+asked-of n e = go (n .right) (n .user) (helped n)
+  where
+    go : (r : Right) (user sum : Bool)
+        → let m = needs r user sum false in eqb (bitAnd e (testOf m .mask)) (testOf m .bits) ≡ (has «V» e && (has A e && (high e && (byRight r true (has D e) true && admitted m e))))
+    go Read true sum = tested (asked (needs Read true sum false)) refl refl e ∙ simp and-true
+    go Read false true = tested (asked (needs Read false true false)) refl refl e ∙ simp (and-true, or-true)
+    go Read false false = tested (asked (needs Read false false false)) refl refl e ∙ simp (and-true, or-false, clear U e)
+    go Write true sum = tested (asked (needs Write true sum false)) refl refl e ∙ simp and-true
+    go Write false true = tested (asked (needs Write false true false)) refl refl e ∙ simp (and-true, or-true)
+    go Write false false = tested (asked (needs Write false false false)) refl refl e ∙ simp (and-true, or-false, clear U e)
+    go Execute true sum = tested (asked (needs Execute true sum false)) refl refl e ∙ simp and-true
+    go Execute false true = tested (asked (needs Execute false true false)) refl refl e ∙ simp (and-true, or-true)
+    go Execute false false = tested (asked (needs Execute false false false)) refl refl e ∙ simp (and-true, or-false, clear U e)
 
 -- the right: one of these bits
-some-of : (k : Kind) (user sum mxr : Bool) (e : ℕ) → let n = needs k user sum mxr in not (eqb (bitAnd e (testOf n .some)) 0) ≡ granted n e
-unfolding get put testOf
-some-of Fetch user sum mxr e = ap not (tested (bit X := 0 ∷ []) refl refl e) ∙ simp (and-true, clear X e, not-not)
-some-of Load user sum true e = ap not (tested (bit R := 0 ∷ bit X := 0 ∷ []) refl refl e) ∙ simp (and-true, clear R e, clear X e) (either (has R e) (has X e))
-some-of Load user sum false e = ap not (tested (bit R := 0 ∷ []) refl refl e) ∙ simp (and-true, and-false, or-false, clear R e, not-not)
-some-of Store user sum mxr e = ap not (tested (bit W := 0 ∷ []) refl refl e) ∙ simp (and-true, clear W e, not-not)
+none-of : Need → List Assignment
+none-of n = map (λ f. f := 0) (rights n)
+
+some-of : (n : Need) (e : ℕ) → not (eqb (bitAnd e (testOf n .some)) 0) ≡ granted n e
+unfolding get put testOf none-of
+some-of n e = go (n .right) (n .mxr)
+  where
+    go : (r : Right) (mxr : Bool) → let m = needs r true false mxr in not (eqb (bitAnd e (testOf m .some)) 0) ≡ granted m e
+    go Read true = ap not (tested (none-of (needs Read true false true)) refl refl e) ∙ simp (and-true, clear R e, clear X e) (either (has R e) (has X e))
+    go Read false = ap not (tested (none-of (needs Read true false false)) refl refl e) ∙ simp (and-true, and-false, or-false, clear R e, not-not)
+    go Write mxr = ap not (tested (none-of (needs Write true false mxr)) refl refl e) ∙ simp (and-true, clear W e, not-not)
+    go Execute mxr = ap not (tested (none-of (needs Execute true false mxr)) refl refl e) ∙ simp (and-true, clear X e, not-not)
+
+-- the test as the code makes it
+abbrev pub coded : Right → (user sum mxr : Bool) → Test
+coded r user sum mxr =
+    record {
+      mask = bitOr (bitOr 0xFFC0000000000041 (byRight r 0 0x80 0)) (pick (user || not sum) 0x10 0);
+      bits = bitOr (bitOr 0x41 (byRight r 0 0x80 0)) (pick user 0x10 0);
+      some = byRight r (pick mxr 0x0A 0x02) 0x04 0x08;
+    }
+
+pub test-code : (n : Need) → testOf n ≡ coded (n .right) (n .user) (helped n) (n .mxr)
+unfolding put testOf
+test-code n = go (n .right) (n .user) (helped n) (n .mxr)
+  where
+    go : (r : Right) (user sum mxr : Bool) → testOf (needs r user sum mxr) ≡ coded r user sum mxr
+    go Read true sum true = refl
+    go Read true sum false = refl
+    go Read false true true = refl
+    go Read false true false = refl
+    go Read false false true = refl
+    go Read false false false = refl
+    go Write true sum mxr = refl
+    go Write false true mxr = refl
+    go Write false false mxr = refl
+    go Execute true sum mxr = refl
+    go Execute false true mxr = refl
+    go Execute false false mxr = refl
 
 -- W without R
 w-alone : (e : ℕ) → eqb (bitAnd e 6) 4 ≡ (has W e && not (has R e))
@@ -160,9 +182,9 @@ takes t e low = eqb (bitAnd e (t .mask)) (t .bits) && not (eqb (bitAnd e (t .som
 takes-leaf : (n : Need) (level e : ℕ) → level < 5 → takes (testOf n) e (2 ^ (12 + 9 * level) - 1) ≡ not (malformed e || badLeaf n level e)
 unfolding malformed badLeaf
 takes-leaf n level e h =
-    rw (asked-of (n .kind) (n .user) (n .sum) (n .mxr) e, some-of (n .kind) (n .user) (n .sum) (n .mxr) e, w-alone e, low-test level e h)
-    (weigh (has «V» e) (has A e) (high e) (by (n .kind) true true (has D e)) (admitted n e) (granted n e) (has W e && not (has R e)) (eqb (get (lowPPN level) e) 0)
-    ∙ rw (store-only (n .kind) (has D e)))
+    rw (asked-of n e, some-of n e, w-alone e, low-test level e h)
+    (weigh (has «V» e) (has A e) (high e) (byRight (n .right) true (has D e) true) (admitted n e) (granted n e) (has W e && not (has R e)) (eqb (get (lowPPN level) e) 0)
+    ∙ rw (write-only (n .right) (has D e)))
 
 -- ---- the judgement, by the tests
 
@@ -202,14 +224,14 @@ module _ (P L : Judgement) where
 -- neither R, W nor X is a right missing
 no-right : (n : Need) (level e : ℕ) → has R e ≡ false → has X e ≡ false → has W e ≡ false → badLeaf n level e ≡ true
 unfolding badLeaf
-no-right n level e r x w = go (n .kind) (n .mxr)
+no-right n level e r x w = go (n .right) (n .mxr)
   where
-    go : (k : Kind) (mxr : Bool)
-        → (not (eqb (get (lowPPN level) e) 0) || not (has A e) || by k false false (not (has D e))
-        || not (pick (n .user) (has U e) (not (has U e) || by k false (n .sum) (n .sum)) && by k (has X e) (has R e || (has X e && mxr)) (has W e))) ≡ true
-    go Fetch mxr = simp (x, and-false, or-true)
-    go Load mxr = simp (r, x, and-false, or-true)
-    go Store mxr = simp (w, and-false, or-true)
+    go : (right : Right) (mxr : Bool)
+        → (not (eqb (get (lowPPN level) e) 0) || not (has A e) || byRight right false (not (has D e)) false
+        || not (admitted n e && byRight right (has R e || (has X e && mxr)) (has W e) (has X e))) ≡ true
+    go Read mxr = simp (r, x, and-false, or-true)
+    go Write mxr = simp (w, and-false, or-true)
+    go Execute mxr = simp (x, and-false, or-true)
 
 -- the mask of a page's offset, as the code has it
 abbrev pub low : ℕ → ℕ

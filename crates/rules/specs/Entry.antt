@@ -7,7 +7,7 @@ use Rattle.bits.specs.Field.{span, get, has, pick}
 use Rattle.rules.specs.declared.Need.{Need}
 use Rattle.rules.specs.declared.Judgement.{Judgement}
 use Rattle.rules.specs.declared.Judgement.the-variants.{Pointer, Leaf, Bad}
-use Rattle.rules.specs.Kind.{by}
+use Rattle.rules.specs.Right.{byRight}
 
 -- the bits of an entry
 abbrev pub «V» : ℕ
@@ -45,11 +45,11 @@ pointer e = not (has R e || has X e)
 
 -- "user mode needs U=1; supervisor on a U=1 page may not fetch, and needs SUM for data"
 abbrev pub admitted : Need → ℕ → Bool
-admitted n e = pick (n .user) (has U e) (not (has U e) || by (n .kind) false (n .sum) (n .sum))
+admitted n e = pick (n .user) (has U e) (not (has U e) || (not (n .fetch) && n .sum))
 
 -- "Loads need R, or X with MXR; stores need W, fetches X."
 abbrev pub granted : Need → ℕ → Bool
-granted n e = by (n .kind) (has X e) (has R e || (has X e && n .mxr)) (has W e)
+granted n e = byRight (n .right) (has R e || (has X e && n .mxr)) (has W e) (has X e)
 
 -- "V=0; W without R; any of bits 63:54"
 unfoldable pub malformed : ℕ → Bool
@@ -64,7 +64,7 @@ unfoldable pub badLeaf : Need → ℕ → ℕ → Bool
 badLeaf n level e =
     not (eqb (get (lowPPN level) e) 0)
     || not (has A e)
-    || by (n .kind) false false (not (has D e))
+    || byRight (n .right) false (not (has D e)) false
     || not (admitted n e && granted n e)
 
 -- "Both stages fault on": an entry e of a level

@@ -4,6 +4,7 @@ ghost use mathlib.Core.Bool.{true};
 ghost use Prim.Native.Nat.{_-_, _<_, _≤_};
 ghost use Rattle.bits.specs.Field.{get};
 ghost use Rattle.rules.specs.Kind.{by};
+ghost use Rattle.rules.specs.Right.{byRight};
 ghost use Rattle.rules.specs.Test.{testOf, Judges};
 ghost use Rattle.rules.specs.Address.{Stage, wellFormed, indexBits, index};
 use bits::Field;
@@ -16,9 +17,17 @@ pub enum Kind {
     Store,
 }
 
-// What an access asks of a leaf.
+// The rights that a leaf grants by R, W and X.
+pub enum Right {
+    Read,
+    Write,
+    Execute,
+}
+
+// What an access asks of a leaf: its right, and what U goes by.
 pub struct Need {
-    pub kind: Kind,
+    pub right: Right,
+    pub fetch: bool,
     pub user: bool,
     pub sum: bool,
     pub mxr: bool,
@@ -57,22 +66,33 @@ impl Kind {
     }
 }
 
+impl Right {
+    // The mask that is this right's own.
+    fn mask(self, read: u64, write: u64, execute: u64) -> u64
+        ensures { λ r. ⌜ r ≡ byRight self read write execute ⌝ }
+    {
+        match self {
+            Right::Read => read,
+            Right::Write => write,
+            Right::Execute => execute,
+        }
+    }
+}
+
 impl Need {
     // V, A, a store's D, U and no bit of 63:54; R, W or X.
     pub fn test(self) -> Test
         ensures { λ r. ⌜ r ≡ testOf self ⌝ }
     {
-        let kind = self.kind;
-        let sum = self.sum;
+        let right = self.right;
         let user = self.user;
-        let d = select(kind.test(false, false, true), 0x80, 0);
-        let u = select(user | !kind.test(false, sum, sum), 0x10, 0);
-        let load = select(self.mxr, 0x0A, 0x02);
-        let data = select(kind.test(false, true, false), load, 0x04);
+        let d = right.mask(0, 0x80, 0);
+        let u = select(user | !(!self.fetch & self.sum), 0x10, 0);
+        let read = select(self.mxr, 0x0A, 0x02);
         Test {
             mask: 0xFFC0_0000_0000_0041 | d | u,
             bits: 0x41 | d | select(user, 0x10, 0),
-            some: select(kind.test(true, false, false), 0x08, data),
+            some: right.mask(read, 0x04, 0x08),
         }
     }
 }

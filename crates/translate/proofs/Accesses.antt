@@ -8,10 +8,10 @@ use lib.Bits.{bitAnd, and-mask}
 use lib.Dec.{eqb}
 use lib.ListN.{length}
 use borrow.Author.Tests.{eqb-true, not-false}
-use Rattle.bits.specs.Field.{pick, get}
+use Rattle.bits.specs.Field.{pick}
 use Rattle.bits.proofs.Bools.{clash, pick-both, or-true, or-false, or-left, or-right}
 use Rattle.bits.proofs.Fields.{get-lt}
-use Rattle.registers.specs.Fields.{MODE, PPN}
+use Rattle.registers.specs.Fields.{PPN}
 use Rattle.registers.specs.Places.{satp, vsatp, hgatp}
 use Rattle.hart.specs.declared.state.Hart.{Hart}
 use Rattle.hart.specs.Hart.{reg, passes}
@@ -28,8 +28,8 @@ use Rattle.stages.specs.Tree.{run}
 use Rattle.stages.specs.Stages.{Result, yields, faults, look, walkOf}
 use Rattle.second_stage.specs.Place.{Tables}
 use Rattle.second_stage.specs.Words.{reached, result}
-use Rattle.effective.specs.declared.Mode.{Mode}
-use Rattle.effective.specs.Effective.{effective, root, off, firstRoot, secondRoot, accessOf}
+use Rattle.effective.specs.declared.EffectiveMode.{EffectiveMode}
+use Rattle.effective.specs.Effective.{effective, isBare, root, off, firstRoot, secondRoot, accessOf}
 use Rattle.translate.specs.declared.Answer.{Answer}
 use Rattle.translate.specs.declared.Start.the-variants.{Answered, Walks}
 use Rattle.translate.specs.Translated.{known, unsupported, misaligned, firstRefusal, unlessRefused, startOf, answer, unwalked, walkedTo, translated}
@@ -103,19 +103,19 @@ pub record Three (r : Root) : Type 0 where
   pub levels : r .levels ≤ 3
   pub ppn : r .ppn < 2 ^ 44
 
-three-root : (x : ℕ) → Three (root x)
-three-root x = record { levels = pick-both (λ (n : ℕ). n ≤ 3) (eqb (get MODE x) 8) 3 0 (λ e. omega arith) (λ e. omega arith); ppn = get-lt PPN x }
-
 three-off : Three off
 three-off = record { levels = omega arith; ppn = omega arith }
 
-pub first-three : (h : Hart) (m : Mode) → Three (firstRoot h m)
+three-root : (x : ℕ) → Three (root x)
+three-root x = pick-both Three (isBare x) off _ (λ e. three-off) (λ e. record { levels = omega arith; ppn = get-lt PPN x })
+
+pub first-three : (h : Hart) (m : EffectiveMode) → Three (firstRoot h m)
 unfolding firstRoot
 first-three h m =
     pick-both Three (m .v) (root (reg h vsatp)) (pick (eqb (m .privilege) 3) off (root (reg h satp))) (λ e. three-root (reg h vsatp))
     (λ e. pick-both Three (eqb (m .privilege) 3) off (root (reg h satp)) (λ e. three-off) (λ e. three-root (reg h satp)))
 
-pub second-three : (h : Hart) (m : Mode) → Three (secondRoot h m)
+pub second-three : (h : Hart) (m : EffectiveMode) → Three (secondRoot h m)
 unfolding secondRoot
 second-three h m = pick-both Three (m .v) (root (reg h hgatp)) off (λ e. three-root (reg h hgatp)) (λ e. three-off)
 

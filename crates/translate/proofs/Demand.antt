@@ -155,7 +155,7 @@ module _ (h : Hart) (base : ℕ) (bytes : List ℕ) (kind : Kind) (address width
         subst (λ (r : Root). GuestEntry vs r address (vs .levels - 1) (vs .ppn * 4096) earlier x) (second-tables h kind address width on)
         (subst (λ (r : Root). GuestEntry r (a .second) address (r .levels - 1) (r .ppn * 4096) earlier x) (first-tables h kind address width on)
         (each h base bytes kind address width (λ (r : Translated). listed r ≡ earlier ++ (x ∷ later) → GuestEntry (a .first) (a .second) address (a .first .levels - 1) (a .first .ppn * 4096) earlier x) (λ y u q. not-empty earlier x later q)
-        (λ p k q. guarded (look base bytes) base (length bytes) a (second-levels h kind address width on p) (k .k) (k .small) (k .multiple) .entries earlier x later one (sym (listed-walk h ran) ∙ q)) e))
+        (λ p k q. guarded (look base bytes) base (length bytes) a (second-levels h kind address width on) (k .k) (k .small) (k .multiple) .entries earlier x later one (sym (listed-walk h ran) ∙ q)) e))
 
     -- The bytes of the access at an address answered lie on a page that the second-stage walk ending the list let through, for the first stage's result, with
     -- the access's own right and U.
@@ -167,7 +167,7 @@ module _ (h : Hart) (base : ℕ) (bytes : List ℕ) (kind : Kind) (address width
         (each h base bytes kind address width (λ (r : Translated). r .answer ≡ Answer.Address m → AnsweredThrough (a .first) (a .second) own address (listed r) m width) at-once
         (λ p k q. rw (listed-walk h ran)
         (subst (λ (n : ℕ). AnsweredThrough (a .first) (a .second) own address (ran .reads) m n) (sym (k .size))
-        (guarded (look base bytes) base (length bytes) a (second-levels h kind address width on p) (k .k) (k .small) (k .multiple) .answer m (address-yielded (ran .end) m q)))) e))
+        (guarded (look base bytes) base (length bytes) a (second-levels h kind address width on) (k .k) (k .small) (k .multiple) .answer m (address-yielded (ran .end) m q)))) e))
       where
         at-once : (x : Answer) → AtOnce h base bytes kind address width x → x ≡ Answer.Address m → AnsweredThrough (a .first) (a .second) own address (listed (unwalked h x)) m width
         at-once x (refused n) q = clash (cc)

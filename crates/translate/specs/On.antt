@@ -1,17 +1,12 @@
 -- Which stages are on.
 use mathlib.Core.Bool.{Bool, _&&_, not}
-use Prim.Native.Nat.{ℕ}
 use lib.Dec.{eqb}
-use Rattle.bits.specs.Field.{pick, get}
-use Rattle.registers.specs.Fields.{MODE}
+use Rattle.bits.specs.Field.{pick}
 use Rattle.registers.specs.Places.{satp, vsatp, hgatp}
 use Rattle.hart.specs.declared.state.Hart.{Hart}
 use Rattle.hart.specs.Hart.{reg}
 use Rattle.rules.specs.declared.Kind.{Kind}
-use Rattle.effective.specs.Effective.{effective}
-
-abbrev pub isBare : ℕ → Bool
-isBare x = eqb (get MODE x) 0
+use Rattle.effective.specs.Effective.{effective, isBare}
 
 -- "A stage is on when the access, by its effective mode, walks it and its MODE isn't Bare."
 abbrev pub firstOn : Hart → Kind → Bool

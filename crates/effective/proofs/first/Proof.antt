@@ -10,7 +10,7 @@ returns c = rw (c .before .before .if1 .taken) (c .tables .ensures)
 
 returns-2 : tie.Need-returns-2
 unfolding firstRoot
-returns-2 c = rw (c .before .before .before .if1 .left, eq-eqb _ _ (c .before .if2 .taken)) (c .bare .ensures)
+returns-2 c = rw (c .before .before .before .if1 .left, eq-eqb _ _ (c .before .if2 .taken)) (c .off .ensures)
 
 returns-3 : tie.Need-returns-3
 unfolding firstRoot
