@@ -7,7 +7,7 @@ use Rattle.access.specs.declared.Guest.{Guest}
 
 -- "The value is the virtual address; the flag is the effective V."
 abbrev pub raised : Access → (cause value2 word : ℕ) → Exception
-raised a cause value2 word = record { cause = cause; value = a .address; second = value2; word = word; flag = a .v }
+raised a cause value2 word = record { cause = cause; value = a .address; value2 = value2; word = word; flag = a .v }
 
 -- "Misaligned load or store: 4 or 6"; no fetch comes to this.
 abbrev pub misalignment : Access → Exception

@@ -79,7 +79,7 @@ impl Access {
         Exception {
             cause: cause(kind, fetch, load, store),
             value: self.address,
-            second: value2,
+            value2,
             word: 0,
             flag: self.v,
         }
@@ -117,7 +117,7 @@ impl Access {
         Exception {
             cause: 21,
             value: self.address,
-            second: guest.0 / 4,
+            value2: guest.0 / 4,
             word: 0x3000,
             flag: self.v,
         }

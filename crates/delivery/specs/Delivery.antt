@@ -20,4 +20,4 @@ callCause c = pick (isM c) 11 (pick (isVS c) 10 (pick (isHS c) 9 8))
 
 -- breakpoint: value pc, flag = V; second value and word are 0
 abbrev pub breakpoint : (v pc : ℕ) → Exception
-breakpoint v pc = record { cause = 3; value = pc; second = 0; word = 0; flag = eqb v 1 }
+breakpoint v pc = record { cause = 3; value = pc; value2 = 0; word = 0; flag = eqb v 1 }

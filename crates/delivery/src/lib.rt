@@ -38,7 +38,7 @@ pub fn breakpoint(v: u64, pc: u64) -> Exception
     Exception {
         cause: 3,
         value: pc,
-        second: 0,
+        value2: 0,
         word: 0,
         flag: v == 1,
     }

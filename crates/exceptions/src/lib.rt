@@ -2,7 +2,7 @@
 pub struct Exception {
     pub cause: u64,
     pub value: u64,
-    pub second: u64,
+    pub value2: u64,
     pub word: u64,
     pub flag: bool,
 }

@@ -13,17 +13,17 @@ pub extern "C" fn balcumentri_trap(
     h: &[u64],
     cause: u64,
     value: u64,
-    second: u64,
+    value2: u64,
     word: u64,
     flag: bool,
     out: &mut [u64],
 ) -> u64
-    ensures { λ r. ⌜ (r, now (out .exit)) ≡ onStep (λ (x : Hart). trap x (record { cause = cause; value = value; second = second; word = word; flag = flag })) (now (h .entry)) (now (out .entry)) ⌝ }
+    ensures { λ r. ⌜ (r, now (out .exit)) ≡ onStep (λ (x : Hart). trap x (record { cause = cause; value = value; value2 = value2; word = word; flag = flag })) (now (h .entry)) (now (out .entry)) ⌝ }
 {
     let t = Exception {
         cause,
         value,
-        second,
+        value2,
         word,
         flag,
     };

@@ -20,7 +20,7 @@ base tvec = tvec - tvec % 4
 abbrev pub writesM : Hart → Exception → List Write
 writesM h t =
     mstatus ↢ (reg h mstatus after intoM (h .v) (h .privilege) (t .flag) (reg h mstatus))
-    ∷ mepc ↢ h .pc ∷ mcause ↢ t .cause ∷ mtval ↢ t .value ∷ mtval2 ↢ t .second ∷ mtinst ↢ t .word ∷ []
+    ∷ mepc ↢ h .pc ∷ mcause ↢ t .cause ∷ mtval ↢ t .value ∷ mtval2 ↢ t .value2 ∷ mtinst ↢ t .word ∷ []
 
 unfoldable pub deliveredM : Hart → Exception → Hart
 deliveredM h t = record { v = 0; privilege = 3; pc = base (reg h mtvec); regs = h .regs with writesM h t }
@@ -30,7 +30,7 @@ abbrev pub writesHS : Hart → Exception → List Write
 writesHS h t =
     mstatus ↢ (reg h mstatus after intoS (h .privilege) (reg h mstatus))
     ∷ hstatus ↢ (reg h hstatus after intoH (h .v) (h .privilege) (t .flag) (reg h hstatus))
-    ∷ sepc ↢ h .pc ∷ scause ↢ t .cause ∷ stval ↢ t .value ∷ htval ↢ t .second ∷ htinst ↢ t .word ∷ []
+    ∷ sepc ↢ h .pc ∷ scause ↢ t .cause ∷ stval ↢ t .value ∷ htval ↢ t .value2 ∷ htinst ↢ t .word ∷ []
 
 unfoldable pub deliveredHS : Hart → Exception → Hart
 deliveredHS h t = record { v = 0; privilege = 1; pc = base (reg h stvec); regs = h .regs with writesHS h t }

@@ -34,7 +34,7 @@ trapped h t = step (delivered h t) (Trapped (t .cause))
 
 -- "In all these but the breakpoint the flag is clear; second value and word are 0": causes 2 and 22 raised by the model, environment calls
 abbrev pub plain : (cause value : ℕ) → Exception
-plain cause value = record { cause = cause; value = value; second = 0; word = 0; flag = false }
+plain cause value = record { cause = cause; value = value; value2 = 0; word = 0; flag = false }
 
 -- "Causes 2 and 22 raised by the model have value 0."
 abbrev pub no-value : ℕ

@@ -17,7 +17,7 @@ impl Hart {
         self.regs[places::MEPC] = pc;
         self.regs[places::MCAUSE] = t.cause;
         self.regs[places::MTVAL] = t.value;
-        self.regs[places::MTVAL2] = t.second;
+        self.regs[places::MTVAL2] = t.value2;
         self.regs[places::MTINST] = t.word;
         self.v = 0;
         self.privilege = 3;
@@ -37,7 +37,7 @@ impl Hart {
         self.regs[places::SEPC] = pc;
         self.regs[places::SCAUSE] = t.cause;
         self.regs[places::STVAL] = t.value;
-        self.regs[places::HTVAL] = t.second;
+        self.regs[places::HTVAL] = t.value2;
         self.regs[places::HTINST] = t.word;
         self.v = 0;
         self.privilege = 1;

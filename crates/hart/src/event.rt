@@ -27,7 +27,7 @@ pub fn plain(cause: u64, value: u64) -> Exception
     Exception {
         cause,
         value,
-        second: 0,
+        value2: 0,
         word: 0,
         flag: false,
     }

@@ -1,35 +1,33 @@
 -- A refusal returns the hart as given; an access that traps or is refused answers 0. Assumes nothing.
 use mathlib.Core.Path.{_≡_, refl}
 use mathlib.Core.Bool.{Bool}
-use Prim.Native.Nat.{ℕ}
-use Rattle.bits.proofs.Bools.{clash}
+use Prim.Native.Nat.{ℕ, _<_}
+use native.Mathlib.Omega.{arith}
 use Rattle.table.specs.declared.Found.{Found}
 use Rattle.table.specs.declared.Found.the-variants.{At, Nothing}
 use Rattle.table.specs.Table.{table, firstAt}
 use Rattle.hart.specs.declared.state.Hart.{Hart}
 use Rattle.hart.specs.declared.event.Outcome.{Outcome}
-use Rattle.hart.specs.declared.event.Outcome.the-variants.{Done, Trapped, Refused}
+use Rattle.hart.specs.declared.event.Outcome.the-variants.{Trapped, Refused}
 use Rattle.hart.specs.declared.event.Step.{Step}
 use Rattle.csr.specs.declared.Form.{Form}
+use Rattle.hart.specs.Event.{refusal}
 use Rattle.hart.specs.Access.{valueOf, accessRow, accessFound, access}
 use Rattle.invariants.specs.Events.{Event, run}
 use Rattle.invariants.proofs.Comes.{Comes, refuses, traps, mrets, srets-VS, srets-HS, moves, writes, comes}
 
-never : {P : Type 0} (o : Outcome) (n : ℕ) → o ≡ Refused n → o ≡ Done → P
-never o n p q = clash (cc)
-
-as-given : (h : Hart) (s : Step) (n : ℕ) → Comes h s → s .outcome ≡ Refused n → s .hart ≡ h
-as-given h s n (refuses m z) e = refl
-as-given h s n (traps a t) e = clash (cc)
-as-given h s n (mrets a m) e = never Done n e refl
-as-given h s n (srets-VS a v) e = never Done n e refl
-as-given h s n (srets-HS a v) e = never Done n e refl
-as-given h s n (moves a) e = never Done n e refl
-as-given h s n (writes a place l w v x) e = never Done n e refl
+as-given : (h : Hart) (s : Step) → Comes h s → 0 < refusal (s .outcome) → s .hart ≡ h
+as-given h s (refuses m z) r = refl
+as-given h s (traps a t) r = absurd (omega arith)
+as-given h s (mrets a m) r = absurd (omega arith)
+as-given h s (srets-VS a v) r = absurd (omega arith)
+as-given h s (srets-HS a v) r = absurd (omega arith)
+as-given h s (moves a) r = absurd (omega arith)
+as-given h s (writes a place l w v x) r = absurd (omega arith)
 
 -- a refusal returns the hart as given: every event
-pub refusal-as-given : (e : Event) (h : Hart) (n : ℕ) → run e h .outcome ≡ Refused n → run e h .hart ≡ h
-refusal-as-given e h n = as-given h (run e h) n (comes e h)
+pub refusal-as-given : (e : Event) (h : Hart) → 0 < refusal (run e h .outcome) → run e h .hart ≡ h
+refusal-as-given e h = as-given h (run e h) (comes e h)
 
 -- the value answered is the old one only where the access was done
 pub record Answers (o : Outcome) (value : ℕ) : Type 0 where

@@ -74,7 +74,7 @@ fault-cause (faults f) = f .cause
 
 abbrev second-value : Result Machine → ℕ
 second-value (yields m) = 0
-second-value (faults f) = f .second
+second-value (faults f) = f .value2
 
 -- Sv39: 1 for a well-formed address
 abbrev well-formed : ℕ → ℕ

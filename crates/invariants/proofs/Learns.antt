@@ -13,7 +13,7 @@ use borrow.Author.Tests.{eqb-true, eqb-false, ltb-true}
 use Rattle.bits.specs.Field.{pick, get}
 use Rattle.bits.proofs.Bools.{clash, split}
 use Rattle.registers.specs.Fields.{SPP}
-use Rattle.registers.specs.Places.{kept, vsstatus, vstvec, vsepc, medeleg, hedeleg}
+use Rattle.registers.specs.Places.{kept, vsstatus, vstvec, vsepc, vsatp, medeleg, hedeleg}
 use Rattle.registers.specs.Registers.{count, at}
 use Rattle.registers.specs.File.{Write, _with_}
 use Rattle.registers.proofs.Rows.{reaches-home}
@@ -43,9 +43,14 @@ use Rattle.hart.specs.Trap.{trap, ecall, ebreak}
 use Rattle.hart.specs.Return.{writesVSRET, returnedVS, returnedS, mret, sret}
 use Rattle.hart.specs.Wait.{wfi, sfenceVma, hfenceVvma, hfenceGvma}
 use Rattle.hart.specs.Access.{seen, written, valueOf, answer, accessRow, accessFound, access}
+use Rattle.rules.specs.declared.Kind.{Kind}
+use Rattle.effective.specs.Effective.{firstRoot, secondRoot, accessOf}
+use Rattle.translate.specs.declared.Start.{Start}
+use Rattle.translate.specs.declared.Start.the-variants.{Answered, Walks}
+use Rattle.translate.specs.Translated.{startOf, concluded, translated}
 use Rattle.invariants.specs.Events.{Event, stepOf, run}
 use Rattle.invariants.specs.Events as events
-use Rattle.invariants.specs.Learns.{guest, Alike, Same}
+use Rattle.invariants.specs.Learns.{guest, Alike, Same, SameTables, SameTranslated}
 use Rattle.invariants.proofs.Writes.{allIn, outside-kept}
 use Rattle.invariants.proofs.Settled.{settled-cases}
 use Rattle.invariants.proofs.Comes.{Allowed, reaches}
@@ -210,3 +215,22 @@ module _ (h h′ : Hart) (a : Alike h h′) where
   guest-learns-nothing events.hfence-vvma = same-settled _ _ _ _ _ _ (rw (a .left .v, a .right .v)) (λ k. same-moved)
   guest-learns-nothing events.hfence-gvma = same-settled _ _ _ _ _ _ (rw (a .left .v, a .right .v)) (λ k. same-moved)
   guest-learns-nothing (events.access form number w b) = same-access form number w b .same
+
+  -- ---- translation
+
+  -- the access is the same, and so is the walk
+  same-access-of : SameTables h h′ → (kind : Kind) (address width : ℕ) → accessOf h kind address width ≡ accessOf h′ kind address width
+  unfolding accessOf firstRoot secondRoot
+  same-access-of t kind address width =
+      rw (a .left .v, a .right .v, a .privilege, a .guest vsstatus refl, a .guest vsatp refl, t .hgatp, t .mxr)
+
+  -- a translation answers the same, with one list
+  pub guest-translates : SameTables h h′ → (base : ℕ) (bytes : List ℕ) (kind : Kind) (address width : ℕ)
+      → SameTranslated (translated h base bytes kind address width) (translated h′ base bytes kind address width)
+  unfolding translated startOf
+  guest-translates t base bytes kind address width =
+      rw (← same-access-of t kind address width, a .left .passing, a .right .passing) (go _)
+    where
+      go : (s : Start) → SameTranslated (concluded h base bytes s) (concluded h′ base bytes s)
+      go (Answered x) = record { answer = refl; reads = refl; count = refl }
+      go (Walks x) = record { answer = refl; reads = refl; count = refl }

@@ -130,7 +130,7 @@ module _ (h : Hart) (t : Exception) (p : Passing h) (l : length (h .regs) ≡ ke
     mprv = ap not (and-false (isSet MPRV (getD (h .regs with writesM h t) mstatus 0)));
     regs = with-holds (writesM h t) (h .regs) (p .regs) (
       stays mstatus (intoM (h .v) (h .privilege) (t .flag) (reg h mstatus)) (reg h mstatus) (intoM-fine (h .v) (h .privilege) (t .flag) (reg h mstatus) (privilege-of (h .v) (h .privilege) (p .mode))) (legal-at h mstatus p l (omega arith)),
-      (epc-legal (h .pc) (p .aligned), (word-legal (t .cause), (word-legal (t .value), (word-legal (t .second), (word-legal (t .word), tt))))),
+      (epc-legal (h .pc) (p .aligned), (word-legal (t .cause), (word-legal (t .value), (word-legal (t .value2), (word-legal (t .word), tt))))),
     );
   }
 
@@ -148,7 +148,7 @@ module _ (h : Hart) (t : Exception) (p : Passing h) (l : length (h .regs) ≡ ke
           stays mstatus (intoS (h .privilege) s) s refl (legal-at h mstatus p l (omega arith)),
           (
             stays hstatus (intoH (h .v) (h .privilege) (t .flag) (reg h hstatus)) (reg h hstatus) refl (legal-at h hstatus p l (omega arith)),
-            (epc-legal (h .pc) (p .aligned), (word-legal (t .cause), (word-legal (t .value), (word-legal (t .second), (word-legal (t .word), tt))))),
+            (epc-legal (h .pc) (p .aligned), (word-legal (t .cause), (word-legal (t .value), (word-legal (t .value2), (word-legal (t .word), tt))))),
           ),
         );
       }

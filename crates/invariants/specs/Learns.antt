@@ -5,11 +5,12 @@ use Prim.Native.Nat.{ℕ}
 use lib.Dec.{leb}
 use lib.ListN.{length}
 use Rattle.bits.specs.Field.{get}
-use Rattle.registers.specs.Fields.{TW, VTVM, VTW, VTSR}
-use Rattle.registers.specs.Places.{kept, vsstatus, vsatp, mstatus, hstatus, medeleg, hedeleg}
+use Rattle.registers.specs.Fields.{MXR, TW, VTVM, VTW, VTSR}
+use Rattle.registers.specs.Places.{kept, vsstatus, vsatp, mstatus, hstatus, medeleg, hedeleg, hgatp}
 use Rattle.hart.specs.declared.state.Hart.{Hart}
 use Rattle.hart.specs.declared.event.Step.{Step}
 use Rattle.hart.specs.Hart.{reg, passes}
+use Rattle.translate.specs.declared.Translated.{Translated}
 
 -- the places of the VS registers
 abbrev pub guest : ℕ → Bool
@@ -51,3 +52,14 @@ pub record Same (s s′ : Step) : Type 0 where
   pub privilege : s .hart .privilege ≡ s′ .hart .privilege
   pub guest : SameGuest (s .hart) (s′ .hart)
   pub pc : s .hart .v ≡ 1 → s .hart .pc ≡ s′ .hart .pc
+
+-- Two harts hold the same in what else a translation with V=1 takes from the host: "V=1 walks vsatp, then hgatp"; "mstatus.MXR counts too".
+pub record SameTables (h h′ : Hart) : Type 0 where
+  pub hgatp : reg h hgatp ≡ reg h′ hgatp
+  pub mxr : get MXR (reg h mstatus) ≡ get MXR (reg h′ mstatus)
+
+-- two translations answer alike, with one list
+pub record SameTranslated (t t′ : Translated) : Type 0 where
+  pub answer : t .answer ≡ t′ .answer
+  pub reads : t .reads ≡ t′ .reads
+  pub count : t .count ≡ t′ .count

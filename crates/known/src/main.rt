@@ -145,7 +145,7 @@ fn request(cause: u64, value: u64) -> Exception {
         return Exception {
             cause,
             value,
-            second: value >> 2,
+            value2: value >> 2,
             word: 0x3000,
             flag: true,
         };

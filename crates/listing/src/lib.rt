@@ -59,7 +59,7 @@ fn put_answer(x: Answer, count: u64, out: &mut [u64])
                 1,
                 f.cause,
                 f.value,
-                f.second,
+                f.value2,
                 f.word,
                 flag,
                 count,

@@ -55,7 +55,7 @@ fn write_fault(f: Exception) {
     text(b"fault");
     number(f.cause);
     number(f.value);
-    number(f.second);
+    number(f.value2);
     number(f.word);
     number(f.flag as u64);
 }

@@ -42,11 +42,11 @@ guest-flag false v h = clash h
 
 module _ (c : Context) (a : Access) where
   -- whether a fault of the access with one of three causes can arise goes by each
-  by-cause : (x y z second word : ℕ) → impossible c (raised a x second word) ≡ false → impossible c (raised a y second word) ≡ false → impossible c (raised a z second word) ≡ false
-      → (k : Kind) → impossible c (raised a (by k x y z) second word) ≡ false
-  by-cause x y z second word fetch load store Fetch = fetch
-  by-cause x y z second word fetch load store Load = load
-  by-cause x y z second word fetch load store Store = store
+  by-cause : (x y z value2 word : ℕ) → impossible c (raised a x value2 word) ≡ false → impossible c (raised a y value2 word) ≡ false → impossible c (raised a z value2 word) ≡ false
+      → (k : Kind) → impossible c (raised a (by k x y z) value2 word) ≡ false
+  by-cause x y z value2 word fetch load store Fetch = fetch
+  by-cause x y z value2 word fetch load store Load = load
+  by-cause x y z value2 word fetch load store Store = store
 
   module _ (guest-v : eqb (c .v) 1 ≡ true → a .v ≡ true) where
     fits : (a .v && false || (not (a .v) && false || not (a .v) && (eqb (c .v) 1 && true))) ≡ false

@@ -31,7 +31,7 @@ refusal (Answer.Fault f) = 0
 abbrev pub values : Answer → List ℕ
 values (Answer.Address m) = m .0 ∷ []
 values (Answer.Refused number) = number ∷ []
-values (Answer.Fault f) = f .cause ∷ f .value ∷ f .second ∷ f .word ∷ pick (f .flag) 1 0 ∷ []
+values (Answer.Fault f) = f .cause ∷ f .value ∷ f .value2 ∷ f .word ∷ pick (f .flag) 1 0 ∷ []
 
 -- "width 1, 2, 4 or 8"
 abbrev pub known : ℕ → Bool

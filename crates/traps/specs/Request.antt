@@ -31,7 +31,7 @@ wrongMode c cause =
 abbrev pub wrongValue : Exception → Bool
 wrongValue t =
     isCall (t .cause) && not (eqb (t .value) 0)
-    || not (isGuestPage (t .cause)) && not (eqb (t .second) 0 && eqb (t .word) 0)
+    || not (isGuestPage (t .cause)) && not (eqb (t .value2) 0 && eqb (t .word) 0)
 
 -- the causes whose flag is never set: 2, 8-11, 22
 abbrev pub neverFlagged : ℕ → Bool

@@ -36,7 +36,7 @@ fn wrong_value(t: Exception) -> bool
     ensures { λ r. ⌜ r ≡ wrongValue t ⌝ }
 {
     let value = is_call(t.cause) & !(t.value == 0);
-    value | (!is_guest_page(t.cause) & !((t.second == 0) & (t.word == 0)))
+    value | (!is_guest_page(t.cause) & !((t.value2 == 0) & (t.word == 0)))
 }
 
 fn never_flagged(cause: u64) -> bool
