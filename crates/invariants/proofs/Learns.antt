@@ -224,12 +224,15 @@ module _ (h h′ : Hart) (a : Alike h h′) where
   same-access-of t kind address width =
       rw (a .left .v, a .right .v, a .privilege, a .guest vsstatus refl, a .guest vsatp refl, t .hgatp, t .mxr)
 
+  same-start : SameTables h h′ → (base len : ℕ) (kind : Kind) (address width : ℕ) → startOf h base len kind address width ≡ startOf h′ base len kind address width
+  unfolding startOf
+  same-start t base len kind address width = rw (same-access-of t kind address width, a .left .passing, a .right .passing)
+
   -- a translation answers the same, with one list
   pub guest-translates : SameTables h h′ → (base : ℕ) (bytes : List ℕ) (kind : Kind) (address width : ℕ)
       → SameTranslated (translated h base bytes kind address width) (translated h′ base bytes kind address width)
-  unfolding translated startOf
-  guest-translates t base bytes kind address width =
-      rw (← same-access-of t kind address width, a .left .passing, a .right .passing) (go _)
+  unfolding translated
+  guest-translates t base bytes kind address width = rw (← same-start t base (length bytes) kind address width) (go (startOf h base (length bytes) kind address width))
     where
       go : (s : Start) → SameTranslated (concluded h base bytes s) (concluded h′ base bytes s)
       go (Answered x) = record { answer = refl; reads = refl; count = refl }
