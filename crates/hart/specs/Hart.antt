@@ -1,12 +1,11 @@
 -- The hart, and check 2 (document 01, "When the model says no").
-use mathlib.Core.Bool.{Bool, _&&_, not}
-use Prim.Native.Nat.{ℕ, _%_}
-use lib.Dec.{eqb}
+use mathlib.Core.Bool.{Bool}
+use Prim.Native.Nat.{ℕ}
 use lib.ListN.{getD}
 use Rattle.registers.specs.Places.{mstatus, hstatus}
 use Rattle.registers.specs.File.{initial, registersPass}
 use Rattle.privilege.specs.declared.Context.{Context}
-use Rattle.privilege.specs.Mode.{amongFive, strayMPRV}
+use Rattle.privilege.specs.Mode.{checked}
 use Rattle.hart.specs.declared.state.Hart.{Hart}
 
 -- what a place holds
@@ -21,7 +20,6 @@ reset v privilege pc = record { v = v; privilege = privilege; pc = pc; regs = in
 abbrev pub context : Hart → Context
 context h = record { v = h .v; privilege = h .privilege; mstatus = reg h mstatus; hstatus = reg h hstatus }
 
--- the hart is refused as 2 for: a mode not among the five, a register holding what no write could store, pc not a multiple of 4, or MPRV=1 outside M
+-- check 2
 unfoldable pub passes : Hart → Bool
-passes h =
-    amongFive (context h) && (registersPass (h .regs) && (eqb (h .pc % 4) 0 && not (strayMPRV (context h))))
+passes h = checked (context h) (registersPass (h .regs)) (h .pc)

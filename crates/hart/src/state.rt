@@ -44,6 +44,6 @@ impl Hart {
     {
         let c = self.context();
         let regs = self.regs;
-        c.is_among_five() & (file::pass(regs) & ((self.pc % 4 == 0) & !c.has_stray_mprv()))
+        c.check(file::pass(regs), self.pc)
     }
 }

@@ -5,7 +5,7 @@ use exceptions::Exception;
 use hart::access::Accessed;
 use hart::event::Outcome;
 use hart::event::Step;
-use hart::event::cause_only;
+use hart::event::plain;
 use hart::state::Hart;
 use libc::STDOUT_FILENO;
 
@@ -150,7 +150,7 @@ fn request(cause: u64, value: u64) -> Exception {
             flag: true,
         };
     }
-    cause_only(cause)
+    plain(cause, 0)
 }
 
 fn instruction(h: Hart, event: u64, n: u64, x: u64) -> Step {

@@ -1,6 +1,6 @@
 // The five modes, and what an instruction's permission depends on.
 ghost use mathlib.Core.Path.{_≡_};
-ghost use Rattle.privilege.specs.Mode.{isU, isHS, isM, isVU, isVS, amongFive, strayMPRV};
+ghost use Rattle.privilege.specs.Mode.{isU, isHS, isM, isVU, isVS, amongFive, strayMPRV, checked};
 use registers::fields::MPRV;
 
 // V, the privilege (0 U, 1 S, 3 M), and the two status words with the controls.
@@ -60,5 +60,12 @@ impl Context {
         ensures { λ r. ⌜ r ≡ strayMPRV self ⌝ }
     {
         (MPRV.get(self.mstatus) == 1) & !self.is_m()
+    }
+
+    // Check 2, of a hart whose registers pass or not, at pc.
+    pub fn check(self, registers: bool, pc: u64) -> bool
+        ensures { λ r. ⌜ r ≡ checked self registers pc ⌝ }
+    {
+        self.is_among_five() & (registers & ((pc % 4 == 0) & !self.has_stray_mprv()))
     }
 }

@@ -2,14 +2,14 @@
 use mathlib.Core.Path.{_≡_, refl, sym, ap, ap₂, subst, _∙_}
 use mathlib.Core.Bool.{Bool, true, _&&_, _||_}
 use mathlib.Core.List.{List, [], _∷_}
-use mathlib.Core.Logic.{_↔_, ⊎-elim}
+use mathlib.Core.Logic.{⊎-elim}
 use Prim.Native.Nat.{ℕ, _%_, _^_, _-_, _<_}
 use native.Mathlib.Nat.{mod-eq-of-lt}
 use lib.Bits.{bitAnd, bitOr, and-zero-r, or-zero-r, and-comm, and-mask}
 use lib.Dec.{eqb}
 use borrow.Author.Tests.{eqb-true, eq-eqb}
 use Rattle.bits.specs.declared.Field.{Field}
-use Rattle.bits.specs.Field.{pick, top, get, put, copy}
+use Rattle.bits.specs.Field.{top, get, put, copy}
 use Rattle.bits.specs.Assign.{Assignment, _after_}
 use Rattle.bits.proofs.Bools.{and-left, and-right, both, split, or-cases, pick-both}
 use Rattle.bits.proofs.Masks.{and-or, and-assoc}

@@ -5,13 +5,7 @@ use Rattle.hart.proofs.state.Hart.passes.Tie as tie
 
 returns : tie.Need-returns
 unfolding passes
-returns c =
-    rw (
-      c .has-stray-mprv .ensures,
-      c .before .before .pass .ensures,
-      c .before .before .before .is-among-five .ensures,
-      c .before .before .before .before .before .context .ensures,
-    )
+returns c = rw (c .check .ensures, c .before .pass .ensures, c .before .before .before .context .ensures)
 
 pub passes-spec : {M : Type 1} → statement M
-passes-spec = tie.close (tie.spec (λ c κs. search needs) (λ c κs. search needs) (λ c κs. search needs) (λ c κs. search needs) returns)
+passes-spec = tie.close (tie.spec (λ c κs. search needs) (λ c κs. search needs) (λ c κs. search needs) returns)
