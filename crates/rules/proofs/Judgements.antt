@@ -1,39 +1,30 @@
 -- What an entry's judgement tells of it. Assumes nothing.
-use mathlib.Core.Path.{_≡_, refl, sym, _∙_}
-use mathlib.Core.Bool.{Bool, true, false, _&&_, _||_}
+use mathlib.Core.Path.{_≡_, refl}
+use mathlib.Core.Bool.{Bool, true, false, _&&_, _||_, not}
 use Prim.Native.Nat.{ℕ, _+_, _^_, _<_}
 use native.Mathlib.Omega.{arith}
 use lib.Dec.{eqb}
-use borrow.Author.Tests.{eqb-false}
-use Rattle.bits.specs.Field.{get, pick}
-use Rattle.bits.proofs.Bools.{clash}
+use borrow.Author.Tests.{eqb-false, not-false}
+use Rattle.bits.specs.Field.{get, has, pick}
+use Rattle.bits.proofs.Bools.{clash, or-right}
 use Rattle.bits.proofs.Fields.{get-lt}
 use Rattle.rules.specs.declared.Need.{Need}
 use Rattle.rules.specs.declared.Judgement.{Judgement}
 use Rattle.rules.specs.declared.Judgement.the-variants.{Pointer, Leaf, Bad}
-use Rattle.rules.specs.Entry.{PPN, pointer, admitted, granted, badPointer, badLeaf, faulty, target, offset, judged}
-
-or-true : (a : Bool) → (a || true) ≡ true
-or-true true = refl
-or-true false = refl
+use Rattle.rules.specs.Right.{byRight}
+use Rattle.rules.specs.Entry.{U, A, D, PPN, lowPPN, pointer, admitted, granted, malformed, badPointer, badLeaf, faulty, target, offset, judged}
 
 -- what an entry that is not faulty has, as a pointer and as a leaf
 module _ (n : Need) (level e : ℕ) (good : faulty n level e ≡ false) where
   pub pointer-high : pointer e ≡ true → eqb level 0 ≡ false
   unfolding faulty badPointer
-  pointer-high p = go (eqb level 0) refl
-    where
-      go : (b : Bool) → eqb level 0 ≡ b → b ≡ false
-      go true z = clash (sym good ∙ simp (p, z, or-true))
-      go false z = refl
+  pointer-high p = or-right (has A e || has D e || has U e) (eqb level 0) (rw p at (or-right (malformed e) _ good))
 
   pub leaf-right : pointer e ≡ false → (admitted n e && granted n e) ≡ true
   unfolding faulty badLeaf
-  leaf-right p = go (admitted n e && granted n e) refl
-    where
-      go : (b : Bool) → (admitted n e && granted n e) ≡ b → b ≡ true
-      go true z = refl
-      go false z = clash (sym good ∙ simp (p, z, or-true))
+  leaf-right p =
+      let rest = not (eqb (get (lowPPN level) e) 0) || not (has A e) || byRight (n .right) false (not (has D e)) false in
+      not-false (admitted n e && granted n e) (or-right rest _ (rw p at (or-right (malformed e) _ good)))
 
 pub record IsPointer (n : Need) (level e table : ℕ) : Type 0 where
   pub good : faulty n level e ≡ false
