@@ -14,7 +14,7 @@ infixl 5 _after_
 abbrev pub _:=_ : Field → ℕ → Assignment
 f := v = record { field = f; value = v }
 
--- x after the assignments, of which no two are to overlapping fields (each list is tested: `distinct`)
+-- x after the assignments, the last first (those of every trap and return are to fields that do not overlap: `no-two` of status)
 abbrev pub _after_ : ℕ → List Assignment → ℕ
 x after [] = x
 x after (a ∷ more) = put (a .field) (a .value) (x after more)

@@ -17,6 +17,7 @@ use Rattle.privilege.specs.Mode.{isU, isHS, isVU, isVS, isSet, gives}
 abbrev pub overRange : ℕ → Bool
 overRange number = ltb 4095 number
 
+-- "satp 180", "hgatp 680"
 abbrev pub isSatp : Row → Bool
 isSatp row = eqb (row .number) 0x180
 

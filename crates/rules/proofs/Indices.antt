@@ -7,7 +7,7 @@ use native.Mathlib.Omega.{arith}
 use lib.Dec.{eqb, ltb}
 use lib.Pow.{pow-mono, pow-pos, pow-add, ones-lt, ones-split, high, shr-shr, shr-mod}
 use borrow.Author.Tests.{eq-eqb, ne-eqb, eqb-true, ltb-true, lt-ltb}
-use Rattle.bits.specs.Field.{get, has, bit, span, pick, top}
+use Rattle.bits.specs.Field.{get, has, span, pick, top}
 use Rattle.bits.proofs.Bools.{both-ways, same-test, or-false}
 use Rattle.bits.proofs.Fields.{get-lt}
 use Rattle.rules.specs.Entry.{offset}
