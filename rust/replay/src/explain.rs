@@ -1,116 +1,201 @@
 //! Answers in words: lines that begin with `# `.
 
+use crate::events;
 use crate::names;
-use crate::walk::{self, View};
-use balcumentri::{Access, Accessed, Hart, Outcome, Translation};
+use crate::paint::Paint;
+use crate::reason;
+use crate::run::Came;
+use crate::script::Event;
+use crate::tree;
+use crate::walk::{self, Part, Stage, View, Walk};
+use balcumentri::{Access, Answer, Fault, Hart, Image, Kind, Translation};
 use std::io::{self, Write};
 
-/// Says answers in words, where that is asked for. It holds the hart as it was before the event.
+/// The instruction word of a fault at a guest entry.
+const GUEST_ENTRY: u64 = 0x3000;
+
+/// How a translation is explained.
+#[derive(Clone, Copy, PartialEq, Eq)]
+pub enum Form {
+    /// A line for each entry.
+    Words,
+    /// A picture.
+    Tree,
+}
+
+/// Says answers in words.
 pub struct Explainer {
-    wanted: bool,
-    before: Hart,
+    pub form: Form,
+    pub paint: Paint,
+}
+
+/// An event that was performed, with all that there is to say about it.
+pub struct Happened<'a> {
+    /// The number and the words of the script's line.
+    pub line: u64,
+    pub text: String,
+    pub event: &'a Event,
+    pub came: &'a Came,
+    pub before: &'a Hart,
+    pub after: &'a Hart,
+    pub image: Image<'a>,
 }
 
 impl Explainer {
-    pub fn new(wanted: bool, before: Hart) -> Self {
-        Explainer { wanted, before }
+    /// The line, what it came to, and why that was a refusal, a fault or an instruction's trap.
+    pub fn explain(&self, out: &mut impl Write, happened: &Happened<'_>) -> io::Result<()> {
+        writeln!(out, "# line {}: {}", happened.line, happened.text)?;
+        let (lines, why) = match (happened.event, happened.came) {
+            (Event::Translate(access), Came::Translated(translation)) => {
+                self.translation(happened, *access, translation)
+            }
+            (Event::Register(number, action), Came::Accessed(accessed)) => {
+                events::access(happened, *number, *action, *accessed)
+            }
+            (Event::Perform(instruction), Came::Stepped(outcome)) => {
+                events::event(happened, instruction.name(), *outcome)
+            }
+            (_, Came::Stepped(outcome)) => events::event(happened, "trap request", *outcome),
+            _ => (events::hart(happened.after), None),
+        };
+        for line in lines {
+            writeln!(out, "# {line}")?;
+        }
+        match why {
+            Some(why) => writeln!(out, "# {}", self.paint.bad(&format!("why: {why}"))),
+            None => Ok(()),
+        }
     }
 
     /// A translation: the access, each entry read for it, and how it ended.
-    pub fn translation(
+    fn translation(
         &self,
-        out: &mut impl Write,
+        happened: &Happened<'_>,
         access: Access,
         translation: &Translation,
-    ) -> io::Result<()> {
-        if !self.wanted {
-            return Ok(());
-        }
-        let view = View::new(&self.before, access.kind);
-        writeln!(out, "# {}", view.heading(access))?;
-        for read in translation.reads() {
-            writeln!(out, "# {}", walk::entry(&view, read))?;
-        }
-        writeln!(out, "# {}", walk::ending(&view, translation))
-    }
-
-    /// A register access.
-    pub fn access(
-        &self,
-        out: &mut impl Write,
-        form: &str,
-        number: u64,
-        accessed: Accessed,
-        after: &Hart,
-    ) -> io::Result<()> {
-        if !self.wanted {
-            return Ok(());
-        }
-        writeln!(
-            out,
-            "# {form} {} ({number:x}){}",
-            names::register(number),
-            self.reached(number)
-        )?;
-        self.event(out, "access", accessed.outcome, after)
-    }
-
-    /// An event: what it came to, and the mode and pc after it.
-    pub fn event(
-        &self,
-        out: &mut impl Write,
-        what: &str,
-        outcome: Outcome,
-        after: &Hart,
-    ) -> io::Result<()> {
-        if !self.wanted {
-            return Ok(());
-        }
-        let from = format!("{} at {:x}", names::mode_of(&self.before), self.before.pc());
-        let to = format!("{} at {:x}", names::mode_of(after), after.pc());
-        match outcome {
-            Outcome::Done => writeln!(out, "# {what} in {from}: done, on in {to}"),
-            Outcome::Trapped(cause) => writeln!(
-                out,
-                "# {what} in {from}: {} ({cause:x}) goes to {to}",
-                names::cause(cause)
-            ),
-            Outcome::Refused(number) => writeln!(
-                out,
-                "# {what} in {from}: refused as {number:x}: {}",
-                names::refusal(number)
-            ),
-        }
-    }
-
-    /// A hart that was shown.
-    pub fn shown(&self, out: &mut impl Write) -> io::Result<()> {
-        if !self.wanted {
-            return Ok(());
-        }
-        let taken = if self.before.passes() {
-            "the model takes it"
-        } else {
-            "the model refuses it as 2"
+    ) -> (Vec<String>, Option<String>) {
+        let answer = translation.answer();
+        let view = View::new(happened.before, access.kind);
+        let (Some(view), Answer::Address(_) | Answer::Fault(_)) = (view, answer) else {
+            let lines = vec![bytes_at(access), self.ending(answer)];
+            return (lines, refused_why(happened, refusal_of(answer)));
         };
-        writeln!(
-            out,
-            "# {} at {:x}; {taken}",
-            names::mode_of(&self.before),
-            self.before.pc()
-        )?;
-        for (number, value) in self.before.registers() {
-            writeln!(out, "# {} {value:x}", names::register(number))?;
-        }
-        Ok(())
+        let walk = walk::follow(&view, access, translation);
+        let heading = heading(access, &view);
+        let ending = self.ending(answer);
+        let lines = match self.form {
+            Form::Words => {
+                let mut lines = vec![heading];
+                walk_lines(&walk, &mut lines);
+                lines.push(ending);
+                lines
+            }
+            Form::Tree => tree::drawn(self.paint, heading, &walk, ending),
+        };
+        (lines, walk.stop.map(|stop| stop.to_string()))
     }
 
-    /// With V=1 an S number reaches its VS register.
-    fn reached(&self, number: u64) -> String {
-        if self.before.v() == 1 && number >> 8 == 1 && balcumentri::place(number + 0x100).is_some()
-        {
-            return format!(", which is {} here", names::register(number + 0x100));
+    /// How a translation ended.
+    fn ending(&self, answer: Answer) -> String {
+        match answer {
+            Answer::Address(address) => self
+                .paint
+                .good(&format!("it reaches machine address {address:x}")),
+            Answer::Refused(number) => self.paint.bad(&refusal(number)),
+            Answer::Fault(fault) => self.paint.bad(&fault_words(fault)),
         }
-        String::new()
+    }
+}
+
+fn refusal_of(answer: Answer) -> u64 {
+    match answer {
+        Answer::Refused(number) => number,
+        Answer::Address(_) | Answer::Fault(_) => 0,
+    }
+}
+
+pub fn refusal(number: u64) -> String {
+    format!("refused as {number:x}: {}", names::refusal(number))
+}
+
+pub fn refused_why(happened: &Happened<'_>, number: u64) -> Option<String> {
+    reason::refused(number, happened.before, happened.image, happened.event)
+}
+
+fn bytes_at(access: Access) -> String {
+    let kind = match access.kind {
+        Kind::Fetch => "fetch",
+        Kind::Load => "load",
+        Kind::Store => "store",
+    };
+    format!("{kind} of {:x} bytes at {:x}", access.width, access.address)
+}
+
+/// The access, its effective mode and the stages that are on.
+fn heading(access: Access, view: &View) -> String {
+    let stages = match (view.first.is_some(), view.second.is_some()) {
+        (false, false) => "no stage is on",
+        (true, false) => "the first stage is on",
+        (false, true) => "the second stage is on",
+        (true, true) => "both stages are on",
+    };
+    let by = if view.by_mprv { ", by MPRV" } else { "" };
+    format!("{} as {}{by}; {stages}", bytes_at(access), view.mode)
+}
+
+/// A fault by its name, and what its second value and word say.
+fn fault_words(fault: Fault) -> String {
+    let mut words = format!(
+        "{}: value {:x}",
+        names::titled_cause(fault.cause),
+        fault.value
+    );
+    if matches!(fault.cause, 20 | 21 | 23) {
+        words += &format!(
+            ", second value {:x} (a guest physical address, shifted right by 2)",
+            fault.second
+        );
+    }
+    if fault.word == GUEST_ENTRY {
+        words += &format!(", word {GUEST_ENTRY:x} (the hart's own read of a guest entry)");
+    }
+    words
+}
+
+/// Each entry of a walk, and each second-stage walk with the address that it is for.
+fn walk_lines(walk: &Walk, lines: &mut Vec<String>) {
+    for stage in [&walk.first, &walk.second].into_iter().flatten() {
+        stage_lines(stage, "the access", lines);
+    }
+}
+
+fn stage_lines(stage: &Stage, purpose: &str, lines: &mut Vec<String>) {
+    let name = if stage.part.is_first() {
+        "first"
+    } else {
+        let address = stage.address;
+        lines.push(format!(
+            "second stage for guest physical {address:x}, {purpose}:"
+        ));
+        "second"
+    };
+    for step in &stage.steps {
+        if let Some(through) = &step.through {
+            let purpose = format!("the guest entry at level {:x}", step.level);
+            stage_lines(through, &purpose, lines);
+        }
+        if let Some(read) = step.read {
+            let guest = match stage.part {
+                Part::Vsatp => format!(" (guest physical {:x})", step.address()),
+                _ => String::new(),
+            };
+            lines.push(format!(
+                "{name} stage, level {:x}, entry at {:x}{guest}: {}, {}",
+                step.level,
+                read.address,
+                walk::flags(read.value),
+                walk::leads(stage.part, step.level, read.value)
+            ));
+        }
     }
 }

@@ -1,24 +1,35 @@
 //! `replay`: runs a replay script through the proved hart model.
 
+mod events;
 mod explain;
+mod fields;
+mod input;
 mod names;
+mod paint;
+mod reason;
+mod registers;
 mod run;
 mod scene;
 mod script;
+mod suggest;
+mod tree;
 mod walk;
 
-use run::{Settings, Stop};
+use explain::{Explainer, Form};
+use paint::Paint;
+use run::Stop;
 use std::ffi::OsString;
 use std::fs::File;
-use std::io::{self, BufReader, BufWriter, IsTerminal, Write};
+use std::io::{self, BufWriter, Write};
 use std::path::{Path, PathBuf};
 use std::process::ExitCode;
 
 const HELP: &str = "\
 replay: runs a replay script through the proved hart model.
 
-    ./replay [--explain] [FILE]     the script of a file, or of standard input
-    ./replay --help                 this text
+    ./replay [--explain[=tree]] [--] [FILE]     the script of a file; of standard input without one, or with -
+    ./replay --help, -h                         this text
+    ./replay --version
 
 Setting the scene (numbers are hexadecimal; `#` starts a comment):
     image BASE LENGTH               a new image of zero bytes
@@ -34,89 +45,108 @@ Events, each answered on standard output:
     ecall  ebreak  mret  sret  wfi  sfence.vma  hfence.vvma  hfence.gvma
     show
 
---explain adds, after each answer, lines that begin with `# ` and say the same in words.
+--explain adds, after each answer, lines that begin with `# ` and say in words what happened and why;
+--explain=tree draws each translation's walk as a tree.
 Exit status: 0 the script was run whole, 1 a bad line, 2 a file or the output can't be used.
+docs/REPLAY.md says more.
 ";
 
+const VERSION: &str = concat!("replay ", env!("CARGO_PKG_VERSION"), "\n");
+
 enum Request {
-    Help,
+    Say(&'static str),
     Run {
-        explain: bool,
+        form: Option<Form>,
         file: Option<PathBuf>,
     },
 }
 
 fn main() -> ExitCode {
     match request(std::env::args_os().skip(1)) {
-        Ok(Request::Help) => match io::stdout().write_all(HELP.as_bytes()) {
+        Ok(Request::Say(text)) => match io::stdout().write_all(text.as_bytes()) {
             Ok(()) => ExitCode::SUCCESS,
-            Err(error) => fail(&format!("the text can't be written: {error}"), 2),
+            Err(error) => unwritten(&error),
         },
-        Ok(Request::Run { explain, file }) => replay(explain, file.as_deref()),
-        Err(why) => fail(&format!("{why}; see ./replay --help"), 2),
+        Ok(Request::Run { form, file }) => replay(form, file.as_deref()),
+        Err(why) => fail(&format!("replay: {why}; see ./replay --help"), 2),
     }
 }
 
 fn request(arguments: impl Iterator<Item = OsString>) -> Result<Request, String> {
-    let (mut explain, mut file) = (false, None);
+    let (mut form, mut file, mut options) = (None, None, true);
     for argument in arguments {
-        if argument == "--help" {
-            return Ok(Request::Help);
-        } else if argument == "--explain" {
-            explain = true;
-        } else if argument.as_encoded_bytes().starts_with(b"-") {
-            return Err(format!("{} is no option", argument.to_string_lossy()));
-        } else if file.replace(PathBuf::from(argument)).is_some() {
-            return Err("more than one file is named".to_owned());
+        let text = argument.as_encoded_bytes();
+        match text {
+            b"--" if options => options = false,
+            b"-h" | b"--help" if options => return Ok(Request::Say(HELP)),
+            b"--version" if options => return Ok(Request::Say(VERSION)),
+            b"--explain" if options => form = Some(Form::Words),
+            b"--explain=tree" if options => form = Some(Form::Tree),
+            [b'-', _, ..] if options => {
+                return Err(format!("{} is no option", suggest::shown(text)));
+            }
+            _ if file.is_some() => return Err("more than one file is named".to_owned()),
+            _ => file = Some(PathBuf::from(argument)),
         }
     }
-    Ok(Request::Run { explain, file })
+    let file = file.filter(|file| !options || file != Path::new("-"));
+    Ok(Request::Run { form, file })
 }
 
-fn replay(explain: bool, file: Option<&Path>) -> ExitCode {
-    let settings = Settings {
-        folder: file.and_then(Path::parent).unwrap_or(Path::new("")),
-        explain,
-        prompt: io::stdout().is_terminal(),
-    };
+fn replay(form: Option<Form>, file: Option<&Path>) -> ExitCode {
+    let name = file.map_or("standard input".to_owned(), bare_name);
+    let folder = file.and_then(Path::parent).unwrap_or(Path::new(""));
+    let explainer = form.map(|form| Explainer {
+        form,
+        paint: Paint::for_output(),
+    });
     let mut out = BufWriter::with_capacity(1 << 16, io::stdout().lock());
-    let ended = match file {
-        None => run::run(io::stdin().lock(), &mut out, &settings),
-        Some(path) => match File::open(path) {
-            Ok(script) => run::run(
-                BufReader::with_capacity(1 << 16, script),
-                &mut out,
-                &settings,
-            ),
-            Err(error) => Err(Stop::Script(error)),
-        },
+    let ended = match file.map(File::open) {
+        None => run::run(io::stdin().lock(), folder, explainer, &mut out),
+        Some(Ok(script)) => run::run(script, folder, explainer, &mut out),
+        Some(Err(error)) => Err(Stop::Script(error)),
     };
-    let (line, why, status) = match ended {
-        Ok(()) => (None, String::new(), 0),
-        Err(Stop::Bad(line, why)) => (Some(line), format!("line {line} (hex {line:x}): {why}"), 1),
-        Err(Stop::Script(error)) => {
-            let script = file.map_or("standard input".into(), |path| path.to_string_lossy());
-            (None, format!("{script} can't be read: {error}"), 2)
+    let (why, status) = match ended {
+        Ok(()) => (None, 0),
+        Err(Stop::Bad(line, mistake)) => {
+            let (column, sentence) = (mistake.column, mistake.sentence);
+            if let Err(error) = writeln!(out, "error {line:x}") {
+                return given_up(out, &error);
+            }
+            (Some(format!("{name}:{line}:{column}: {sentence}")), 1)
         }
-        Err(Stop::Answers(error)) => return unwritten(out, &error),
+        Err(Stop::Script(error)) => (Some(format!("replay: {name} can't be read: {error}")), 2),
+        Err(Stop::Answers(error)) => return given_up(out, &error),
     };
-    let said = line.map_or(Ok(()), |line| writeln!(out, "error {line:x}"));
-    match said.and_then(|()| out.flush()) {
-        Err(error) => unwritten(out, &error),
-        Ok(()) if status == 0 => ExitCode::SUCCESS,
-        Ok(()) => fail(&why, status),
+    match (out.flush(), why) {
+        (Err(error), _) => given_up(out, &error),
+        (Ok(()), Some(why)) => fail(&why, status),
+        (Ok(()), None) => ExitCode::SUCCESS,
     }
+}
+
+/// The script's name without its folders, printable.
+fn bare_name(path: &Path) -> String {
+    scene::file_name(path).trim_matches('`').to_owned()
 }
 
 /// The answers can't be written; what is still held of them is given up.
-fn unwritten<W: Write>(out: BufWriter<W>, error: &io::Error) -> ExitCode {
+fn given_up<W: Write>(out: BufWriter<W>, error: &io::Error) -> ExitCode {
     let _ = out.into_parts();
-    fail(&format!("the answers can't be written: {error}"), 2)
+    unwritten(error)
+}
+
+/// Answers that can't be written. A reader that went away needs no sentence.
+fn unwritten(error: &io::Error) -> ExitCode {
+    if error.kind() == io::ErrorKind::BrokenPipe {
+        return ExitCode::from(2);
+    }
+    fail(&format!("replay: the answers can't be written: {error}"), 2)
 }
 
 /// A sentence on standard error, and the exit status.
 fn fail(why: &str, status: u8) -> ExitCode {
     // where standard error is closed too, the status alone has to say it
-    let _ = writeln!(io::stderr(), "replay: {why}");
+    let _ = writeln!(io::stderr(), "{why}");
     ExitCode::from(status)
 }

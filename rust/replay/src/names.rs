@@ -1,63 +1,70 @@
-//! The names of modes, registers, causes and refusals.
+//! The modes, and the names of causes and refusals.
 
 use balcumentri::Hart;
+use std::fmt;
 
-/// The mode that V and a privilege make.
-pub fn mode(v: u64, privilege: u64) -> &'static str {
-    match (v, privilege) {
-        (0, 0) => "U",
-        (0, 1) => "HS",
-        (0, 3) => "M",
-        (1, 0) => "VU",
-        (1, 1) => "VS",
-        _ => "no mode",
+/// The five modes.
+#[derive(Clone, Copy, PartialEq, Eq)]
+pub enum Mode {
+    U,
+    Hs,
+    M,
+    Vu,
+    Vs,
+}
+
+impl Mode {
+    /// The mode that V and a privilege make.
+    pub fn of(v: u64, privilege: u64) -> Option<Self> {
+        match (v, privilege) {
+            (0, 0) => Some(Mode::U),
+            (0, 1) => Some(Mode::Hs),
+            (0, 3) => Some(Mode::M),
+            (1, 0) => Some(Mode::Vu),
+            (1, 1) => Some(Mode::Vs),
+            _ => None,
+        }
+    }
+
+    /// The mode of a hart.
+    pub fn of_hart(hart: &Hart) -> Option<Self> {
+        Mode::of(hart.v(), hart.privilege())
+    }
+
+    /// Whether V is 1.
+    pub fn is_guest(self) -> bool {
+        matches!(self, Mode::Vu | Mode::Vs)
+    }
+
+    /// Whether the privilege is U's.
+    pub fn is_user(self) -> bool {
+        matches!(self, Mode::U | Mode::Vu)
     }
 }
 
-/// The mode of a hart.
-pub fn mode_of(hart: &Hart) -> &'static str {
-    mode(hart.v(), hart.privilege())
-}
-
-/// The register with a number.
-pub fn register(number: u64) -> &'static str {
-    match number {
-        0x100 => "sstatus",
-        0x105 => "stvec",
-        0x140 => "sscratch",
-        0x141 => "sepc",
-        0x142 => "scause",
-        0x143 => "stval",
-        0x180 => "satp",
-        0x200 => "vsstatus",
-        0x205 => "vstvec",
-        0x240 => "vsscratch",
-        0x241 => "vsepc",
-        0x242 => "vscause",
-        0x243 => "vstval",
-        0x280 => "vsatp",
-        0x300 => "mstatus",
-        0x302 => "medeleg",
-        0x305 => "mtvec",
-        0x340 => "mscratch",
-        0x341 => "mepc",
-        0x342 => "mcause",
-        0x343 => "mtval",
-        0x34a => "mtinst",
-        0x34b => "mtval2",
-        0x600 => "hstatus",
-        0x602 => "hedeleg",
-        0x643 => "htval",
-        0x64a => "htinst",
-        0x680 => "hgatp",
-        0xe12 => "hgeip",
-        _ => "no listed register",
+impl fmt::Display for Mode {
+    fn fmt(&self, text: &mut fmt::Formatter<'_>) -> fmt::Result {
+        text.write_str(match self {
+            Mode::U => "U",
+            Mode::Hs => "HS",
+            Mode::M => "M",
+            Mode::Vu => "VU",
+            Mode::Vs => "VS",
+        })
     }
 }
 
-/// The cause with a number.
-pub fn cause(number: u64) -> &'static str {
-    match number {
+/// Where a hart is: its mode and pc.
+pub fn place(hart: &Hart) -> String {
+    match Mode::of_hart(hart) {
+        Some(mode) => format!("{mode} at {:x}", hart.pc()),
+        None => format!("no mode at {:x}", hart.pc()),
+    }
+}
+
+/// The name of the cause with a number.
+pub fn cause(number: u64) -> Option<&'static str> {
+    Some(match number {
         0 => "instruction address misaligned",
         1 => "instruction access fault",
         2 => "illegal instruction",
@@ -77,18 +84,23 @@ pub fn cause(number: u64) -> &'static str {
         21 => "load guest-page fault",
         22 => "virtual instruction",
         23 => "store guest-page fault",
-        _ => "no cause",
-    }
+        _ => return None,
+    })
+}
+
+/// The cause with a number, by name and number.
+pub fn titled_cause(number: u64) -> String {
+    format!("{} ({number:x})", cause(number).unwrap_or("no cause"))
 }
 
 /// What a refusal's number says.
 pub fn refusal(number: u64) -> &'static str {
     match number {
-        1 => "the image is too large, not on a page boundary or beyond 2^56",
-        2 => "no hart can be in this state: its mode, a register, pc or MPRV outside M",
-        3 => "no access has this width, or a fetch is not of 4 bytes at a multiple of 4",
-        4 => "such a trap can't arise",
-        5 => "register numbers end at fff",
+        1 => "the model takes no such image",
+        2 => "no hart can be in this state",
+        3 => "no access has this width, or a fetch this address",
+        4 => "no such trap can arise",
+        5 => "no register number is that large",
         _ => "no refusal",
     }
 }

@@ -1,5 +1,7 @@
 //! The scene of a script: an image and a hart.
 
+use crate::registers;
+use crate::suggest::shown;
 use balcumentri::{Hart, Image};
 use std::fs::File;
 use std::io::Read;
@@ -48,17 +50,15 @@ impl Scene {
 
     /// A new image: the bytes of a file.
     pub fn load_image(&mut self, base: u64, path: &Path) -> Result<(), String> {
-        let unreadable = |error| format!("{} can't be read: {error}", path.display());
+        let name = file_name(path);
+        let unreadable = |error| format!("{name} can't be read: {error}");
         let mut bytes = Vec::new();
         let file = File::open(path).map_err(unreadable)?;
         file.take(LARGEST + 1)
             .read_to_end(&mut bytes)
             .map_err(unreadable)?;
         if bytes.len() as u64 > LARGEST {
-            return Err(format!(
-                "{} is more than this program holds",
-                path.display()
-            ));
+            return Err(format!("{name} is more than this program holds"));
         }
         self.base = base;
         self.bytes = bytes;
@@ -73,7 +73,15 @@ impl Scene {
             .and_then(|offset| self.bytes.get_mut(offset..)?.first_chunk_mut());
         match eight {
             Some(eight) => *eight = value.to_le_bytes(),
-            None => return Err(format!("eight bytes at {address:x} don't lie in the image")),
+            None => {
+                let image = match self.bytes.len() {
+                    0 => "is empty".to_owned(),
+                    length => format!("has {length:x} bytes from {:x} on", self.base),
+                };
+                return Err(format!(
+                    "the eight bytes at {address:x} don't lie in the image, which {image}"
+                ));
+            }
         }
         Ok(())
     }
@@ -81,9 +89,22 @@ impl Scene {
     /// A stored register holds a value.
     pub fn hold(&mut self, number: u64, value: u64) -> Result<(), String> {
         if self.hart.put_register(number, value) {
-            Ok(())
-        } else {
-            Err(format!("{number:x} is the number of no stored register"))
+            return Ok(());
         }
+        Err(match registers::name(number) {
+            Some("sstatus") => {
+                "sstatus (100) is not stored: it is a view of mstatus (300)".to_owned()
+            }
+            Some(name) => format!("{name} ({number:x}) is not stored: it is a constant"),
+            None => format!("no register has the number {number:x}"),
+        })
+    }
+}
+
+/// The name of a file without its folders, for a sentence.
+pub fn file_name(path: &Path) -> String {
+    match path.file_name() {
+        Some(name) => shown(name.as_encoded_bytes()),
+        None => "a folder".to_owned(),
     }
 }

@@ -1,9 +1,10 @@
 //! The script language: what a line says.
 
+use crate::suggest;
 use balcumentri::{Access, Fault, Kind};
 
 /// An instruction without numbers.
-#[derive(Clone, Copy)]
+#[derive(Clone, Copy, PartialEq, Eq)]
 pub enum Instruction {
     Ecall,
     Ebreak,
@@ -15,6 +16,51 @@ pub enum Instruction {
     HfenceGvma,
 }
 
+impl Instruction {
+    /// The manual's name.
+    pub fn name(self) -> &'static str {
+        match self {
+            Instruction::Ecall => "ECALL",
+            Instruction::Ebreak => "EBREAK",
+            Instruction::Mret => "MRET",
+            Instruction::Sret => "SRET",
+            Instruction::Wfi => "WFI",
+            Instruction::SfenceVma => "SFENCE.VMA",
+            Instruction::HfenceVvma => "HFENCE.VVMA",
+            Instruction::HfenceGvma => "HFENCE.GVMA",
+        }
+    }
+}
+
+/// What is done to a register; the flag of a set and a clear says whether it writes.
+#[derive(Clone, Copy)]
+pub enum Action {
+    Read,
+    Write(u64),
+    Set(u64, bool),
+    Clear(u64, bool),
+}
+
+impl Action {
+    pub fn writes(self) -> bool {
+        match self {
+            Action::Read => false,
+            Action::Write(_) => true,
+            Action::Set(_, writes) | Action::Clear(_, writes) => writes,
+        }
+    }
+
+    /// The word that a write asks for, made of the old one.
+    pub fn asked(self, old: u64) -> u64 {
+        match self {
+            Action::Read => old,
+            Action::Write(value) => value,
+            Action::Set(value, _) => old | value,
+            Action::Clear(value, _) => old & !value,
+        }
+    }
+}
+
 /// What a line asks for.
 pub enum Command {
     Image { base: u64, length: u64 },
@@ -22,140 +68,252 @@ pub enum Command {
     Put { address: u64, value: u64 },
     Hart { v: u64, privilege: u64, pc: u64 },
     Reg { number: u64, value: u64 },
+    Event(Event),
+}
+
+/// What has an answer.
+#[derive(Clone, Copy)]
+pub enum Event {
     Translate(Access),
-    Read(u64),
-    Write(u64, u64),
-    Set(u64, u64, bool),
-    Clear(u64, u64, bool),
+    Register(u64, Action),
     Trap(Fault),
     Perform(Instruction),
     Show,
 }
 
-/// Reads a line, without its line feed. `None`: nothing but blanks and a comment. An error is a sentence.
-pub fn parse(line: &[u8]) -> Result<Option<Command>, String> {
-    let mut words = Words { rest: line };
-    match words.next() {
-        None => Ok(None),
-        Some(b"file") => file(words).map(Some),
-        Some(word) => command(word, words).map(Some),
+/// What is wrong with a line, and where.
+pub struct Mistake {
+    /// The column, in bytes from 1.
+    pub column: usize,
+    pub sentence: String,
+}
+
+impl Mistake {
+    /// At an offset of the line.
+    pub fn at(offset: usize, sentence: impl Into<String>) -> Self {
+        Mistake {
+            column: offset + 1,
+            sentence: sentence.into(),
+        }
     }
 }
 
-fn command(word: &[u8], mut words: Words<'_>) -> Result<Command, String> {
-    let line = &mut words;
-    let command = match word {
-        b"image" => Command::Image {
-            base: number(line)?,
-            length: number(line)?,
-        },
-        b"put" => Command::Put {
-            address: number(line)?,
-            value: number(line)?,
-        },
-        b"hart" => Command::Hart {
-            v: number(line)?,
-            privilege: number(line)?,
-            pc: number(line)?,
-        },
-        b"reg" => Command::Reg {
-            number: number(line)?,
-            value: number(line)?,
-        },
-        b"fetch" => access(Kind::Fetch, line)?,
-        b"load" => access(Kind::Load, line)?,
-        b"store" => access(Kind::Store, line)?,
-        b"read" => Command::Read(number(line)?),
-        b"write" => Command::Write(number(line)?, number(line)?),
-        b"set" => Command::Set(number(line)?, number(line)?, flag(line)?),
-        b"clear" => Command::Clear(number(line)?, number(line)?, flag(line)?),
-        b"trap" => Command::Trap(Fault {
-            cause: number(line)?,
-            value: number(line)?,
-            second: number(line)?,
-            word: number(line)?,
-            flag: flag(line)?,
-        }),
-        b"ecall" => Command::Perform(Instruction::Ecall),
-        b"ebreak" => Command::Perform(Instruction::Ebreak),
-        b"mret" => Command::Perform(Instruction::Mret),
-        b"sret" => Command::Perform(Instruction::Sret),
-        b"wfi" => Command::Perform(Instruction::Wfi),
-        b"sfence.vma" => Command::Perform(Instruction::SfenceVma),
-        b"hfence.vvma" => Command::Perform(Instruction::HfenceVvma),
-        b"hfence.gvma" => Command::Perform(Instruction::HfenceGvma),
-        b"show" => Command::Show,
-        _ => return Err(format!("{} is no word of the script language", shown(word))),
+/// A first word of a line, and what it takes.
+pub struct Form {
+    pub word: &'static str,
+    takes: &'static [&'static str],
+}
+
+const fn form(word: &'static str, takes: &'static [&'static str]) -> Form {
+    Form { word, takes }
+}
+
+/// The most numbers that a line takes.
+const MOST: usize = 5;
+
+pub const FORMS: [Form; 22] = [
+    form("image", &["BASE", "LENGTH"]),
+    form("file", &["BASE", "PATH"]),
+    form("put", &["ADDRESS", "VALUE"]),
+    form("hart", &["V", "P", "PC"]),
+    form("reg", &["NUMBER", "VALUE"]),
+    form("fetch", &["ADDRESS", "WIDTH"]),
+    form("load", &["ADDRESS", "WIDTH"]),
+    form("store", &["ADDRESS", "WIDTH"]),
+    form("read", &["N"]),
+    form("write", &["N", "VALUE"]),
+    form("set", &["N", "VALUE", "WRITES"]),
+    form("clear", &["N", "VALUE", "WRITES"]),
+    form("trap", &["CAUSE", "VALUE", "SECOND", "WORD", "FLAG"]),
+    form("ecall", &[]),
+    form("ebreak", &[]),
+    form("mret", &[]),
+    form("sret", &[]),
+    form("wfi", &[]),
+    form("sfence.vma", &[]),
+    form("hfence.vvma", &[]),
+    form("hfence.gvma", &[]),
+    form("show", &[]),
+];
+
+/// Reads a line, without its line feed. `None`: nothing but blanks and a comment.
+pub fn parse(line: &[u8]) -> Result<Option<Command>, Mistake> {
+    let mut words = Words { line, at: 0 };
+    let Some((at, word)) = words.next() else {
+        return Ok(None);
     };
-    match words.next() {
-        None => Ok(command),
-        Some(more) => Err(format!("{} is more than the line takes", shown(more))),
+    let form = FORMS.iter().find(|form| form.word.as_bytes() == word);
+    let form = form.ok_or_else(|| Mistake::at(at, suggest::word(word)))?;
+    if form.word == "file" {
+        return words.file(form).map(Some);
     }
+    let numbers = words.numbers(form)?;
+    Ok(Some(command(form.word, numbers)))
 }
 
-fn access(kind: Kind, line: &mut Words<'_>) -> Result<Command, String> {
-    Ok(Command::Translate(Access {
-        kind,
-        address: number(line)?,
-        width: number(line)?,
-    }))
+/// The offset at which a word of the line begins, the first being number 0.
+pub fn offset(line: &[u8], number: usize) -> usize {
+    let mut words = Words { line, at: 0 };
+    let mut found = None;
+    for _ in 0..=number {
+        found = words.next();
+    }
+    found.map_or(line.len(), |(at, _)| at)
 }
 
-/// The path is the rest of the line, `#` and inner blanks included.
-fn file(mut words: Words<'_>) -> Result<Command, String> {
-    let base = number(&mut words)?;
-    let after_blank = words.rest.first().copied().is_some_and(is_blank);
-    let path = trimmed(words.rest);
-    if !after_blank || path.is_empty() {
-        return Err("a path is missing".to_owned());
+/// The line's words, without blanks and comment around them.
+pub fn text(line: &[u8]) -> String {
+    let mut words = Words { line, at: 0 };
+    let mut text = Vec::new();
+    while let Some((_, word)) = words.next() {
+        text.push(String::from_utf8_lossy(word));
     }
-    Ok(Command::File {
-        base,
-        path: path.to_vec(),
+    text.join(" ")
+}
+
+/// What a word says with its numbers.
+fn command(word: &str, [a, b, c, d, e]: [u64; MOST]) -> Command {
+    let access = |kind| {
+        Event::Translate(Access {
+            kind,
+            address: a,
+            width: b,
+        })
+    };
+    Command::Event(match word {
+        "image" => return Command::Image { base: a, length: b },
+        "put" => {
+            return Command::Put {
+                address: a,
+                value: b,
+            }
+        }
+        "hart" => {
+            return Command::Hart {
+                v: a,
+                privilege: b,
+                pc: c,
+            }
+        }
+        "reg" => {
+            return Command::Reg {
+                number: a,
+                value: b,
+            }
+        }
+        "fetch" => access(Kind::Fetch),
+        "load" => access(Kind::Load),
+        "store" => access(Kind::Store),
+        "read" => Event::Register(a, Action::Read),
+        "write" => Event::Register(a, Action::Write(b)),
+        "set" => Event::Register(a, Action::Set(b, c == 1)),
+        "clear" => Event::Register(a, Action::Clear(b, c == 1)),
+        "trap" => Event::Trap(Fault {
+            cause: a,
+            value: b,
+            second: c,
+            word: d,
+            flag: e == 1,
+        }),
+        "ecall" => Event::Perform(Instruction::Ecall),
+        "ebreak" => Event::Perform(Instruction::Ebreak),
+        "mret" => Event::Perform(Instruction::Mret),
+        "sret" => Event::Perform(Instruction::Sret),
+        "wfi" => Event::Perform(Instruction::Wfi),
+        "sfence.vma" => Event::Perform(Instruction::SfenceVma),
+        "hfence.vvma" => Event::Perform(Instruction::HfenceVvma),
+        "hfence.gvma" => Event::Perform(Instruction::HfenceGvma),
+        _ => Event::Show,
     })
-}
-
-fn number(line: &mut Words<'_>) -> Result<u64, String> {
-    let word = line.next().ok_or("a number is missing")?;
-    let bad = || format!("{} is no number of 1 to 16 hexadecimal digits", shown(word));
-    if word.len() > 16 {
-        return Err(bad());
-    }
-    word.iter().try_fold(0, |sum, &byte| {
-        let digit = char::from(byte).to_digit(16).ok_or_else(bad)?;
-        Ok(sum << 4 | u64::from(digit))
-    })
-}
-
-fn flag(line: &mut Words<'_>) -> Result<bool, String> {
-    match number(line)? {
-        0 => Ok(false),
-        1 => Ok(true),
-        other => Err(format!("{other:x} is neither 0 nor 1")),
-    }
-}
-
-/// A word of a script in a sentence: printable and short.
-fn shown(word: &[u8]) -> String {
-    let start = &word[..word.len().min(40)];
-    let dots = if word.len() > 40 { ".." } else { "" };
-    format!("`{}{dots}`", start.escape_ascii())
 }
 
 /// The words of a line up to its comment.
 struct Words<'a> {
-    rest: &'a [u8],
+    line: &'a [u8],
+    /// Where what is left begins.
+    at: usize,
 }
 
 impl<'a> Words<'a> {
-    fn next(&mut self) -> Option<&'a [u8]> {
-        let start = self.rest.iter().position(|&byte| !is_blank(byte))?;
-        let from = &self.rest[start..];
+    /// The next word, and its offset.
+    fn next(&mut self) -> Option<(usize, &'a [u8])> {
+        let left = &self.line[self.at..];
+        let start = self.at + left.iter().position(|&byte| !is_blank(byte))?;
+        let from = &self.line[start..];
         let end = from.iter().position(|&byte| is_blank(byte) || byte == b'#');
-        let (word, rest) = from.split_at(end.unwrap_or(from.len()));
-        self.rest = rest;
-        (!word.is_empty()).then_some(word)
+        let word = &from[..end.unwrap_or(from.len())];
+        if word.is_empty() {
+            return None;
+        }
+        self.at = start + word.len();
+        Some((start, word))
     }
+
+    /// The numbers that a form takes, and nothing more.
+    fn numbers(&mut self, form: &Form) -> Result<[u64; MOST], Mistake> {
+        let mut numbers = [0; MOST];
+        for (number, name) in numbers.iter_mut().zip(form.takes) {
+            *number = self.number(form, name)?;
+        }
+        match self.next() {
+            None => Ok(numbers),
+            Some((at, more)) => {
+                let sentence = format!("{}; {} is too much", takes(form), suggest::shown(more));
+                Err(Mistake::at(at, sentence))
+            }
+        }
+    }
+
+    /// The next number, by its name.
+    fn number(&mut self, form: &Form, name: &str) -> Result<u64, Mistake> {
+        let (at, word) = self.next().ok_or_else(|| self.missing(form, name))?;
+        let number = value(word).ok_or_else(|| {
+            let register = matches!(name, "N" | "NUMBER");
+            Mistake::at(at, suggest::number(word, register))
+        })?;
+        if matches!(name, "WRITES" | "FLAG") && number > 1 {
+            return Err(Mistake::at(at, format!("{name} is 0 or 1, not {number:x}")));
+        }
+        Ok(number)
+    }
+
+    /// The path is the rest of the line, `#` and inner blanks included.
+    fn file(&mut self, form: &Form) -> Result<Command, Mistake> {
+        let base = self.number(form, "BASE")?;
+        let rest = &self.line[self.at..];
+        let after_blank = rest.first().copied().is_some_and(is_blank);
+        let path = trimmed(rest);
+        if !after_blank || path.is_empty() {
+            return Err(self.missing(form, "PATH"));
+        }
+        Ok(Command::File {
+            base,
+            path: path.to_vec(),
+        })
+    }
+
+    /// Something is missing where the next word would begin, behind a blank.
+    fn missing(&self, form: &Form, name: &str) -> Mistake {
+        Mistake::at(self.at + 1, format!("{}; {name} is missing", takes(form)))
+    }
+}
+
+fn takes(form: &Form) -> String {
+    if form.takes.is_empty() {
+        return format!("{} takes no number", form.word);
+    }
+    format!("{} takes {}", form.word, form.takes.join(" "))
+}
+
+/// The number that 1 to 16 hexadecimal digits are.
+pub fn value(word: &[u8]) -> Option<u64> {
+    if word.is_empty() || word.len() > 16 {
+        return None;
+    }
+    word.iter().try_fold(0, |sum, &byte| {
+        let digit = char::from(byte).to_digit(16)?;
+        Some(sum << 4 | u64::from(digit))
+    })
 }
 
 /// Space, tab and carriage return.

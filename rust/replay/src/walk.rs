@@ -1,236 +1,429 @@
-//! A walk in words: what an entry says, and why a walk ended. It explains answers and decides none.
+//! A translation followed along its list of reads: in which table each entry stands, where it leads, and where and why the walk ended.
+//! It explains answers and decides none.
 
-use crate::names;
-use balcumentri::{Access, Answer, Fault, Hart, Kind, Read, Translation};
+use crate::names::Mode;
+use crate::registers::{get, HGATP, MSTATUS, SATP, VSATP, VSSTATUS};
+use balcumentri::{Access, Answer, Hart, Kind, Read, Translation};
+use std::fmt;
+use std::slice::Iter;
 
-const MPRV: u32 = 17;
-const SUM: u32 = 18;
-const MXR: u32 = 19;
-const MPV: u32 = 39;
-
-/// The instruction word of a fault at a guest entry.
-const GUEST_ENTRY: u64 = 0x3000;
-
-fn has(word: u64, bit: u32) -> bool {
-    word >> bit & 1 == 1
-}
+/// The level of the root tables.
+const TOP: u64 = 2;
 
 /// What an access takes from the hart.
 pub struct View {
     kind: Kind,
-    v: u64,
-    privilege: u64,
+    /// The effective mode.
+    pub mode: Mode,
+    /// Whether it is that of MPP and MPV, by MPRV.
+    pub by_mprv: bool,
     sum: bool,
+    guest_mxr: bool,
     mxr: bool,
-    machine_mxr: bool,
-    first: bool,
-    second: bool,
+    /// The first stage that is on: satp or vsatp.
+    pub first: Option<Table>,
+    /// The second stage, if it is on.
+    pub second: Option<Table>,
+}
+
+/// A register that names a root table.
+#[derive(Clone, Copy)]
+pub struct Table {
+    pub part: Part,
+    root: u64,
 }
 
 impl View {
-    pub fn new(hart: &Hart, kind: Kind) -> Self {
+    /// None where the hart is in no mode.
+    pub fn new(hart: &Hart, kind: Kind) -> Option<Self> {
         let register = |number| hart.register(number).unwrap_or(0);
-        let mstatus = register(0x300);
-        let (mut v, mut privilege) = (hart.v(), hart.privilege());
-        if (v, privilege) == (0, 3) && has(mstatus, MPRV) && kind != Kind::Fetch {
-            privilege = mstatus >> 11 & 3;
-            v = u64::from(privilege != 3 && has(mstatus, MPV));
+        let status = |name| get(MSTATUS, name, register(MSTATUS));
+        let mut mode = Mode::of_hart(hart)?;
+        let by_mprv = mode == Mode::M && kind != Kind::Fetch && status("MPRV") == 1;
+        if by_mprv {
+            let v = if status("MPP") == 3 { 0 } else { status("MPV") };
+            mode = Mode::of(v, status("MPP"))?;
         }
-        let own = if v == 1 { register(0x200) } else { mstatus };
-        let on = |number| register(number) >> 60 == 8;
-        View {
+        let table = |number, part| {
+            let word = register(number);
+            let root = get(number, "PPN", word) << 12;
+            (get(number, "MODE", word) != 0).then_some(Table { part, root })
+        };
+        let guest = mode.is_guest();
+        let own = if guest { VSSTATUS } else { MSTATUS };
+        Some(View {
             kind,
-            v,
-            privilege,
-            sum: has(own, SUM),
-            mxr: has(own, MXR) || has(mstatus, MXR),
-            machine_mxr: has(mstatus, MXR),
-            first: if v == 1 {
-                on(0x280)
-            } else {
-                privilege != 3 && on(0x180)
+            mode,
+            by_mprv,
+            sum: get(own, "SUM", register(own)) == 1,
+            guest_mxr: guest && get(VSSTATUS, "MXR", register(VSSTATUS)) == 1,
+            mxr: status("MXR") == 1,
+            first: match mode {
+                Mode::M => None,
+                _ if guest => table(VSATP, Part::Vsatp),
+                _ => table(SATP, Part::Satp),
             },
-            second: v == 1 && on(0x680),
+            second: table(HGATP, Part::Access).filter(|_| guest),
+        })
+    }
+}
+
+/// A part of a walk.
+#[derive(Clone, Copy, PartialEq, Eq)]
+pub enum Part {
+    /// The first stage with effective V=0.
+    Satp,
+    /// The first stage with effective V=1.
+    Vsatp,
+    /// The second stage for a guest entry.
+    GuestEntry,
+    /// The second stage for the access.
+    Access,
+}
+
+impl Part {
+    pub fn is_first(self) -> bool {
+        matches!(self, Part::Satp | Part::Vsatp)
+    }
+}
+
+/// A stage's way through its tables.
+pub struct Stage {
+    pub part: Part,
+    /// The address that it translates.
+    pub address: u64,
+    pub steps: Vec<Step>,
+}
+
+/// An entry on the way.
+pub struct Step {
+    pub level: u64,
+    pub table: u64,
+    pub index: u64,
+    /// For a guest entry, its way through the second stage.
+    pub through: Option<Stage>,
+    /// What was read, if the walk came so far.
+    pub read: Option<Read>,
+    /// The rule that the entry breaks.
+    pub broken: Option<&'static str>,
+}
+
+impl Step {
+    /// The entry's address: guest physical for a guest entry.
+    pub fn address(&self) -> u64 {
+        self.table + 8 * self.index
+    }
+}
+
+/// Where and why a walk ended with a fault.
+pub struct Stop {
+    place: String,
+    rule: String,
+}
+
+impl fmt::Display for Stop {
+    fn fmt(&self, text: &mut fmt::Formatter<'_>) -> fmt::Result {
+        write!(text, "{}: {}", self.place, self.rule)
+    }
+}
+
+/// A walk: its first stage, its second stage for the access, and why it ended if that was a fault.
+pub struct Walk {
+    pub first: Option<Stage>,
+    pub second: Option<Stage>,
+    pub stop: Option<Stop>,
+}
+
+/// Follows a translation that was not refused.
+pub fn follow(view: &View, access: Access, translation: &Translation) -> Walk {
+    let mut walk = Walk {
+        first: None,
+        second: None,
+        stop: None,
+    };
+    let mut follower = Follower {
+        view,
+        reads: translation.reads().iter(),
+    };
+    walk.stop = follower.walk(
+        access,
+        translation.answer(),
+        &mut walk.first,
+        &mut walk.second,
+    );
+    walk
+}
+
+struct Follower<'a> {
+    view: &'a View,
+    reads: Iter<'a, Read>,
+}
+
+impl Follower<'_> {
+    fn walk(
+        &mut self,
+        access: Access,
+        answer: Answer,
+        first: &mut Option<Stage>,
+        second: &mut Option<Stage>,
+    ) -> Option<Stop> {
+        let Access { address, width, .. } = access;
+        if !address.is_multiple_of(width) {
+            return Some(at_access(format!(
+                "{address:x} is not a multiple of {width:x}"
+            )));
+        }
+        let mut reached = address;
+        for (table, stage) in [(self.view.first, first), (self.view.second, second)] {
+            if let Some(table) = table {
+                let result = self.stage(table, reached, stage);
+                match result {
+                    Ok(address) => reached = address,
+                    Err(stop) => return Some(stop),
+                }
+            }
+        }
+        match answer {
+            Answer::Fault(_) => Some(at_access(outside(reached))),
+            Answer::Address(_) | Answer::Refused(_) => None,
         }
     }
 
-    /// The access, its effective mode and the stages that are on.
-    pub fn heading(&self, access: Access) -> String {
-        let kind = match access.kind {
-            Kind::Fetch => "fetch",
-            Kind::Load => "load",
-            Kind::Store => "store",
+    /// Follows a stage, which is put into `stage`; what it yields, or why it doesn't.
+    fn stage(&mut self, from: Table, address: u64, stage: &mut Option<Stage>) -> Result<u64, Stop> {
+        let part = from.part;
+        let stage = stage.insert(Stage {
+            part,
+            address,
+            steps: Vec::new(),
+        });
+        if let Some(rule) = high_bits(part, address) {
+            return Err(stop(part, address, None, rule));
+        }
+        let (mut table, mut level) = (from.root, TOP);
+        loop {
+            let mut step = Step {
+                level,
+                table,
+                index: index(part, address, level),
+                through: None,
+                read: None,
+                broken: None,
+            };
+            let next = self.step(part, address, &mut step);
+            stage.steps.push(step);
+            match next? {
+                Next::Table(below) => (table, level) = (below, level.saturating_sub(1)),
+                Next::Page(page) => return Ok(page | address & ((1 << offset_bits(level)) - 1)),
+            }
+        }
+    }
+
+    /// Follows the way to one entry, and what it leads to.
+    fn step(&mut self, part: Part, address: u64, step: &mut Step) -> Result<Next, Stop> {
+        let level = step.level;
+        let mut at = step.address();
+        if let (Part::Vsatp, Some(second)) = (part, self.view.second) {
+            let entry = Table {
+                part: Part::GuestEntry,
+                ..second
+            };
+            at = self.stage(entry, at, &mut step.through)?;
+        }
+        step.read = self.reads.next().copied();
+        let Some(read) = step.read else {
+            let rule = format!("the entry at {}", outside(at));
+            return Err(stop(part, address, Some(level), rule));
         };
-        let stages = match (self.first, self.second) {
-            (false, false) => "no stage is on",
-            (true, false) => "the first stage is on",
-            (false, true) => "the second stage is on",
-            (true, true) => "both stages are on",
-        };
-        format!(
-            "{kind} of {:x} bytes at {:x} as {}; {stages}",
-            access.width,
-            access.address,
-            names::mode(self.v, self.privilege)
-        )
+        self.judged(part, level, read.value).map_err(|rule| {
+            step.broken = Some(rule);
+            stop(part, address, Some(level), rule)
+        })
     }
 
-    /// Why a walk ended with a fault.
-    pub fn why(&self, fault: Fault, translation: &Translation) -> String {
-        match fault.cause {
-            4 | 6 => "the address is not a multiple of the width".to_owned(),
-            1 | 5 | 7 => self.outside(translation.reads()).to_owned(),
-            12 | 13 | 15 => match translation.reads().last() {
-                None => "bits 63:39 of the address are not all bit 38".to_owned(),
-                Some(read) => self.broken(read, self.first_rights(read.value)),
-            },
-            _ if fault.second >> 39 != 0 => format!(
-                "guest physical address {:x} has bits above 40",
-                u128::from(fault.second) << 2
-            ),
-            _ => match translation.reads().last() {
-                None => "a rule of the second stage fails".to_owned(),
-                Some(read) => self.broken(
-                    read,
-                    self.second_rights(read.value, fault.word == GUEST_ENTRY),
-                ),
-            },
-        }
-    }
-
-    /// What lay outside the image.
-    fn outside(&self, reads: &[Read]) -> &'static str {
-        let entry = "the next entry lies outside the image";
-        let access = "the access does not lie whole in the image";
-        let first_done = !self.first
-            || reads
-                .iter()
-                .any(|read| read.stage == 1 && is_leaf(read.value));
-        match reads.last() {
-            None if self.first || self.second => entry,
-            None => access,
-            Some(last) if !is_leaf(last.value) || !first_done => entry,
-            Some(last) if last.stage == 1 && self.second => entry,
-            Some(_) => access,
-        }
-    }
-
-    /// The first stage's right that is missing at a leaf.
-    fn first_rights(&self, entry: u64) -> Option<&'static str> {
-        let user = has(entry, 4);
-        if self.privilege == 0 && !user {
-            return Some("user mode needs U");
-        }
-        if self.privilege != 0 && user && self.kind == Kind::Fetch {
-            return Some("supervisor mode may not fetch from a U page");
-        }
-        if self.privilege != 0 && user && !self.sum {
-            return Some("supervisor mode needs SUM for a U page");
-        }
-        right(entry, self.kind, self.mxr, "a load needs R, or X with MXR")
-    }
-
-    /// The second stage's right that is missing at a leaf.
-    fn second_rights(&self, entry: u64, guest_entry: bool) -> Option<&'static str> {
-        if !has(entry, 4) {
-            return Some("the second stage needs U");
-        }
-        if guest_entry {
-            let needs_r = "the hart's read of a guest entry needs R";
-            return right(entry, Kind::Load, false, needs_r);
-        }
-        let load = "a load needs R, or X with mstatus.MXR";
-        right(entry, self.kind, self.machine_mxr, load)
-    }
-
-    /// The fault rule that holds at an entry.
-    fn broken(&self, read: &Read, missing: Option<&'static str>) -> String {
-        let entry = read.value;
-        let store = self.kind == Kind::Store && missing.is_none();
-        let rule = if !has(entry, 0) {
-            "V is 0"
-        } else if has(entry, 2) && !has(entry, 1) {
-            "W without R"
+    /// What an entry leads to, or the rule that it breaks.
+    fn judged(&self, part: Part, level: u64, entry: u64) -> Result<Next, &'static str> {
+        let pointer = !has(entry, R) && !has(entry, X);
+        let low_ppn = (1 << (offset_bits(level) - 12)) - 1;
+        if !has(entry, V) {
+            Err("V is 0")
+        } else if has(entry, W) && !has(entry, R) {
+            Err("W without R")
         } else if entry >> 54 != 0 {
-            "a bit of 63:54 is set"
-        } else if !is_leaf(entry) && entry & 0xd0 != 0 {
-            "a pointer with A, D or U"
-        } else if !is_leaf(entry) {
-            "a pointer at level 0"
-        } else if entry >> 10 & ((1 << (9 * read.level.min(5))) - 1) != 0 {
-            "a large leaf whose low PPN is not zero"
-        } else if !has(entry, 6) {
-            "A is 0"
-        } else if store && !has(entry, 7) {
-            "a store needs D"
+            Err("a bit of 63:54 is set")
+        } else if pointer && has(entry, A) {
+            Err("a pointer with A")
+        } else if pointer && has(entry, D) {
+            Err("a pointer with D")
+        } else if pointer && has(entry, U) {
+            Err("a pointer with U")
+        } else if pointer && level == 0 {
+            Err("a pointer at level 0")
+        } else if pointer {
+            Ok(Next::Table(target(entry)))
+        } else if target(entry) >> 12 & low_ppn != 0 {
+            Err("a large leaf whose low PPN is not 0")
         } else {
-            missing.unwrap_or("a store needs D")
+            self.leaf(part, entry)?;
+            Ok(Next::Page(target(entry)))
+        }
+    }
+
+    /// The rules of a leaf alone.
+    fn leaf(&self, part: Part, entry: u64) -> Result<(), &'static str> {
+        let kind = match part {
+            Part::GuestEntry => Kind::Load,
+            _ => self.view.kind,
         };
-        format!("at the last entry: {rule}")
+        if !has(entry, A) {
+            return Err("A is 0");
+        }
+        if kind == Kind::Store && !has(entry, D) {
+            return Err("a store needs D");
+        }
+        if part.is_first() {
+            self.user(entry)?;
+        } else if !has(entry, U) {
+            return Err("the second stage needs U");
+        }
+        let View { mxr, guest_mxr, .. } = *self.view;
+        let (opens, load) = match part {
+            Part::Satp | Part::Access => (mxr, "a load needs R, or X with mstatus.MXR"),
+            Part::Vsatp => {
+                let load = "a load needs R, or X with vsstatus.MXR or mstatus.MXR";
+                (mxr || guest_mxr, load)
+            }
+            Part::GuestEntry => (false, "a read of a guest entry needs R"),
+        };
+        match kind {
+            Kind::Load if !(has(entry, R) || opens && has(entry, X)) => Err(load),
+            Kind::Store if !has(entry, W) => Err("a store needs W"),
+            Kind::Fetch if !has(entry, X) => Err("a fetch needs X"),
+            _ => Ok(()),
+        }
+    }
+
+    /// The first stage's rules about U.
+    fn user(&self, entry: u64) -> Result<(), &'static str> {
+        let View {
+            mode, sum, kind, ..
+        } = *self.view;
+        match (mode.is_user(), has(entry, U)) {
+            (true, false) => Err("user mode needs U"),
+            (false, true) if kind == Kind::Fetch => {
+                Err("supervisor mode may not fetch from a U page")
+            }
+            (false, true) if !sum && mode.is_guest() => {
+                Err("supervisor mode needs vsstatus.SUM on a U page")
+            }
+            (false, true) if !sum => Err("supervisor mode needs mstatus.SUM on a U page"),
+            _ => Ok(()),
+        }
     }
 }
 
-/// The right that an access needs and a leaf lacks; `load` says what a load needs.
-fn right(entry: u64, kind: Kind, mxr: bool, load: &'static str) -> Option<&'static str> {
-    let (read, write, execute) = (has(entry, 1), has(entry, 2), has(entry, 3));
-    match kind {
-        Kind::Fetch if !execute => Some("a fetch needs X"),
-        Kind::Load if !(read || execute && mxr) => Some(load),
-        Kind::Store if !write => Some("a store needs W"),
-        _ => None,
+/// What an entry that breaks no rule leads to.
+enum Next {
+    Table(u64),
+    Page(u64),
+}
+
+fn at_access(rule: String) -> Stop {
+    Stop {
+        place: "the access".to_owned(),
+        rule,
     }
 }
 
-fn is_leaf(entry: u64) -> bool {
-    has(entry, 1) || has(entry, 3)
+fn stop(part: Part, address: u64, level: Option<u64>, rule: impl Into<String>) -> Stop {
+    let part = match part {
+        Part::Satp => "first stage (satp)".to_owned(),
+        Part::Vsatp => "first stage (vsatp)".to_owned(),
+        Part::GuestEntry => format!("second stage for the guest entry at {address:x}"),
+        Part::Access => format!("second stage for the access at {address:x}"),
+    };
+    Stop {
+        place: match level {
+            Some(level) => format!("{part}, level {level:x}"),
+            None => part,
+        },
+        rule: rule.into(),
+    }
 }
 
-/// An entry: its stage, level and place, its flags, and where it leads.
-pub fn entry(view: &View, read: &Read) -> String {
-    let stage = if read.stage == 2 { "second" } else { "first" };
-    let flags: String = "VRWXUGAD"
-        .chars()
-        .zip(0..)
-        .map(|(flag, bit)| if has(read.value, bit) { flag } else { '-' })
-        .collect();
-    // with V=1 the first stage yields guest physical addresses
-    let guest = if read.stage == 1 && view.v == 1 {
+/// What is missing for a machine address.
+fn outside(address: u64) -> String {
+    let page = address & !0xfff;
+    format!("{address:x} is outside the image: page {page:x} is missing")
+}
+
+/// The rule about an address's high bits, where it is broken.
+fn high_bits(part: Part, address: u64) -> Option<String> {
+    let high = address >> 38;
+    if part.is_first() {
+        (high != 0 && high != u64::MAX >> 38)
+            .then(|| format!("bits 63:39 of {address:x} are not all equal to bit 38"))
+    } else {
+        (address >> 41 != 0).then(|| format!("bits 63:41 of {address:x} are not all 0"))
+    }
+}
+
+/// How many low bits of an address a page of a level leaves as they are.
+fn offset_bits(level: u64) -> u64 {
+    12 + 9 * level
+}
+
+/// An address's index into the table of a level.
+fn index(part: Part, address: u64, level: u64) -> u64 {
+    let wide = !part.is_first() && level == TOP;
+    address >> offset_bits(level) & if wide { 0x7ff } else { 0x1ff }
+}
+
+const V: u32 = 0;
+const R: u32 = 1;
+const W: u32 = 2;
+const X: u32 = 3;
+const U: u32 = 4;
+const A: u32 = 6;
+const D: u32 = 7;
+
+fn has(entry: u64, flag: u32) -> bool {
+    entry >> flag & 1 == 1
+}
+
+/// The table or page of an entry's PPN.
+fn target(entry: u64) -> u64 {
+    (entry >> 10 & ((1 << 44) - 1)) << 12
+}
+
+/// An entry's flags.
+pub fn flags(entry: u64) -> String {
+    let letters = "VRWXUGAD".chars().zip(0..);
+    letters
+        .map(|(letter, bit)| if has(entry, bit) { letter } else { '-' })
+        .collect()
+}
+
+/// What an entry is. With effective V=1 the first stage's addresses are guest physical.
+pub fn leads(part: Part, level: u64, entry: u64) -> String {
+    let guest = if part == Part::Vsatp {
         "guest physical "
     } else {
         ""
     };
-    let target = (read.value >> 10 & ((1 << 44) - 1)) << 12;
-    let leads = if !has(read.value, 0) {
+    let target = target(entry);
+    if !has(entry, V) {
         "not valid".to_owned()
-    } else if is_leaf(read.value) {
-        format!("a leaf: the {} page at {guest}{target:x}", page(read.level))
+    } else if has(entry, W) && !has(entry, R) {
+        "neither a leaf nor a pointer: W without R is reserved".to_owned()
+    } else if has(entry, R) || has(entry, X) {
+        let size = match level {
+            0 => "4 KiB",
+            1 => "2 MiB",
+            _ => "1 GiB",
+        };
+        format!("a leaf: the {size} page at {guest}{target:x}")
     } else {
         format!("a pointer to the table at {guest}{target:x}")
-    };
-    format!(
-        "{stage} stage, level {:x}, entry at {:x}: {flags}, {leads}",
-        read.level, read.address
-    )
-}
-
-fn page(level: u64) -> &'static str {
-    match level {
-        0 => "4 KiB",
-        1 => "2 MiB",
-        _ => "1 GiB",
-    }
-}
-
-/// How a translation ended.
-pub fn ending(view: &View, translation: &Translation) -> String {
-    match translation.answer() {
-        Answer::Address(address) => format!("it reaches machine address {address:x}"),
-        Answer::Refused(number) => format!("refused as {number:x}: {}", names::refusal(number)),
-        Answer::Fault(fault) => format!(
-            "{} ({:x}): {}",
-            names::cause(fault.cause),
-            fault.cause,
-            view.why(fault, translation)
-        ),
     }
 }

@@ -1,17 +1,23 @@
 //! The program itself: answers, bad scripts, exit status.
 
 use compare::program::Folder;
-use std::io::Write;
-use std::process::{Command, Output, Stdio};
+use std::io::{BufRead, BufReader, Write};
+use std::process::{Child, Command, Output, Stdio};
+use std::sync::mpsc;
+use std::time::Duration;
 
-fn replay(arguments: &[&str], script: &[u8]) -> Output {
-    let mut child = Command::new(env!("CARGO_BIN_EXE_replay"))
+fn started(arguments: &[&str]) -> Child {
+    Command::new(env!("CARGO_BIN_EXE_replay"))
         .args(arguments)
         .stdin(Stdio::piped())
         .stdout(Stdio::piped())
         .stderr(Stdio::piped())
         .spawn()
-        .expect("the program starts");
+        .expect("the program starts")
+}
+
+fn replay(arguments: &[&str], script: &[u8]) -> Output {
+    let mut child = started(arguments);
     let mut stdin = child.stdin.take().expect("standard input is a pipe");
     // a program that ends at a bad line may close its input first
     let _ = stdin.write_all(script);
@@ -96,6 +102,153 @@ fn bad_lines_end_the_run() {
     }
 }
 
+/// The sentence about a script's first line, without the script's name.
+fn sentence(line: &[u8]) -> String {
+    let output = replay(&[], line);
+    assert_eq!(output.stdout, b"error 1\n");
+    let text = String::from_utf8(output.stderr).expect("sentences are text");
+    let said = text.strip_prefix("standard input:1:");
+    let said = said.and_then(|said| said.strip_suffix('\n'));
+    said.unwrap_or_else(|| panic!("{text}")).to_owned()
+}
+
+#[test]
+fn a_bad_line_is_told_by_its_place_and_what_to_write() {
+    for (line, told) in [
+        (&b"hart"[..], "6: hart takes V P PC; V is missing"),
+        (b"hart 1 1  # no pc", "10: hart takes V P PC; PC is missing"),
+        (b"hart 1 1 0 4", "12: hart takes V P PC; `4` is too much"),
+        (b"\twfi 0", "6: wfi takes no number; `0` is too much"),
+        (b"file 0#x", "8: file takes BASE PATH; PATH is missing"),
+        (b"load 0x80000000 8", "6: `0x80000000` is no number: numbers are hexadecimal without a prefix, `80000000`"),
+        (b"load 8000_0000 8", "6: `8000_0000` is no number: a number's digits stand together, `80000000`"),
+        (b"load 00000000000000000 8", "6: `00000000000000000` is no number: it has 17 digits, and 16 are the most"),
+        (b"load -1 8", "6: `-1` is no number: a number is 1 to 16 hexadecimal digits"),
+        (b"reg mstatsu 0", "5: `mstatsu` is no number: did you mean mstatus, which is 300?"),
+        (b"read hgatp", "6: `hgatp` is no number: registers go by number, and hgatp is 680"),
+        (b"load satp 8", "6: `satp` is no number: a number is 1 to 16 hexadecimal digits"),
+        (b"Load 0 8", "1: `Load` is no word of the language: words are lower case, `load`"),
+        (b" lod 0 8", "2: `lod` is no word of the language: did you mean load?"),
+        (b"hfence", "1: `hfence` is no word of the language: did you mean hfence.vvma or hfence.gvma?"),
+        (b"nonsense", "1: `nonsense` is no word of the language"),
+        (b"\xef\xbb\xbfshow", "1: a byte-order mark (bytes ef bb bf) stands before the word: save the script without it"),
+        (b"set 300 0 2", "11: WRITES is 0 or 1, not 2"),
+        (b"trap 2 0 0 0 10", "14: FLAG is 0 or 1, not 10"),
+        (b"put 8 0", "5: the eight bytes at 8 don't lie in the image, which is empty"),
+        (b"reg 100 0", "5: sstatus (100) is not stored: it is a view of mstatus (300)"),
+        (b"reg e12 0", "5: hgeip (e12) is not stored: it is a constant"),
+        (b"reg 123 0", "5: no register has the number 123"),
+        (b"image 0 1000000000000000", "9: an image of 1000000000000000 bytes is more than this program holds"),
+    ] {
+        assert_eq!(sentence(line), told, "{}", line.escape_ascii());
+    }
+}
+
+#[test]
+fn a_path_is_shown_without_its_folders_and_printable() {
+    let said = sentence(b"file 0 /a-folder/\x1b[31mno\xc2\x85-such-file");
+    assert!(
+        said.starts_with("8: `\\u{1b}[31mno\\u{85}-such-file` can't be read"),
+        "{said}"
+    );
+    let long = [&b"file 0 /a-folder/"[..], &b"x".repeat(200)].concat();
+    let said = sentence(&long);
+    assert!(
+        said.starts_with(&format!("8: `{}..` can't", "x".repeat(40))),
+        "{said}"
+    );
+}
+
+#[test]
+fn an_error_names_the_scripts_file_and_line() {
+    let folder = Folder::new().expect("a folder is made");
+    let file = folder.path().join("a script.replay");
+    std::fs::write(&file, "wfi\n\nwfi 0\n").expect("the script is written");
+    let output = replay(&[file.to_str().expect("the path is text")], b"");
+    assert_eq!(output.stdout, b"ok\nerror 3\n");
+    let said = String::from_utf8_lossy(&output.stderr).into_owned();
+    assert_eq!(
+        said,
+        "a script.replay:3:5: wfi takes no number; `0` is too much\n"
+    );
+}
+
+/// Whether the program ends by itself, though its input does not.
+fn ends(mut child: Child) -> Option<Output> {
+    let open = child.stdin.take();
+    let (sender, receiver) = mpsc::channel();
+    std::thread::spawn(move || sender.send(child.wait_with_output()));
+    let ended = receiver.recv_timeout(Duration::from_secs(20));
+    drop(open);
+    ended.ok()?.ok()
+}
+
+#[test]
+fn a_raw_image_is_told_before_its_end() {
+    for (bytes, column) in [(&b"\0"[..], 1), (b"wfi \0", 5), (b"\x7fELF\x02\x01\0\0", 7)] {
+        let mut child = started(&[]);
+        let input = child.stdin.as_mut().expect("standard input is a pipe");
+        input.write_all(bytes).expect("the bytes are written");
+        let output = ends(child).expect("the program ends");
+        assert_eq!(output.stdout, b"error 1\n");
+        let said = String::from_utf8_lossy(&output.stderr).into_owned();
+        assert!(
+            said.starts_with(&format!("standard input:1:{column}: a NUL byte")),
+            "{said}"
+        );
+        assert!(said.contains("`file BASE PATH`"), "{said}");
+    }
+    assert_eq!(answers(b"wfi # \0\n#\0\nwfi\n"), "ok\nok\n");
+}
+
+#[test]
+fn a_line_has_an_end() {
+    let most = 1 << 24;
+    let comment = |length| [&b"wfi\n#"[..], &b"x".repeat(length - 1), b"\nwfi\n"].concat();
+    assert_eq!(from_file(&comment(most)).stdout, b"ok\nok\n");
+    let output = from_file(&comment(most + 1));
+    assert_eq!(output.stdout, b"ok\nerror 2\n");
+    let said = String::from_utf8_lossy(&output.stderr).into_owned();
+    assert!(
+        said.ends_with(":2:16777217: the line has more than 1000000 (hexadecimal) bytes\n"),
+        "{said}"
+    );
+    let mut child = started(&[]);
+    let input = child.stdin.as_mut().expect("standard input is a pipe");
+    let _ = input.write_all(&b" ".repeat(most + 1));
+    assert_eq!(ends(child).expect("the program ends").stdout, b"error 1\n");
+}
+
+#[test]
+fn whoever_waits_for_an_answer_gets_it() {
+    let mut child = started(&[]);
+    let mut input = child.stdin.take().expect("standard input is a pipe");
+    let output = child.stdout.take().expect("standard output is a pipe");
+    let (sender, receiver) = mpsc::channel();
+    std::thread::spawn(move || {
+        for line in BufReader::new(output).lines() {
+            let _ = sender.send(line.expect("answers are text"));
+        }
+    });
+    for (pieces, answer) in [
+        (&["read 300\n"][..], "value a00000000"),
+        (&["read", " 305\n"], "value 0"),
+        (&["# a comment\nwfi\nre"], "ok"),
+        (&["ad 300\nwf"], "value a00000000"),
+        (&["i\n"], "ok"),
+    ] {
+        for piece in pieces {
+            input
+                .write_all(piece.as_bytes())
+                .expect("the script is written");
+        }
+        let answered = receiver.recv_timeout(Duration::from_secs(20));
+        assert_eq!(answered.as_deref(), Ok(answer), "{pieces:?}");
+    }
+    drop(input);
+    assert!(child.wait().expect("the program ends").success());
+}
+
 #[test]
 fn a_put_lies_whole_in_the_image() {
     assert_eq!(bad(b"image 1000 10\nput 1008 1\n"), None);
@@ -136,10 +289,36 @@ fn wrong_command_lines_and_unreadable_scripts() {
 }
 
 #[test]
-fn help_is_written() {
-    let output = replay(&["--help"], b"");
-    assert_eq!(output.status.code(), Some(0));
-    assert!(output.stdout.starts_with(b"replay: "));
+fn options() {
+    for (arguments, begins) in [
+        (&["--help"][..], "replay: runs"),
+        (&["-h"], "replay: runs"),
+        (&["--explain", "--help"], "replay: runs"),
+        (&["--version"], "replay 0."),
+        (&[], "ok\n"),
+        (&["-"], "ok\n"),
+        (&["--"], "ok\n"),
+        (&["--explain", "-"], "ok\n# line 1: wfi\n"),
+        (
+            &["--explain=tree", "--", "/dev/stdin"],
+            "ok\n# line 1: wfi\n",
+        ),
+    ] {
+        let output = replay(arguments, b"wfi\n");
+        let text = String::from_utf8_lossy(&output.stdout).into_owned();
+        assert_eq!(output.status.code(), Some(0), "{arguments:?}");
+        assert!(text.starts_with(begins), "{arguments:?}: {text}");
+    }
+    for arguments in [&["-"][..], &["--", "-"], &["--", "--explain"]] {
+        let output = Command::new(env!("CARGO_BIN_EXE_replay"))
+            .args(arguments)
+            .current_dir("/")
+            .stdin(Stdio::null())
+            .output();
+        let status = output.expect("the program ends").status.code();
+        let expected = if arguments.len() == 1 { 0 } else { 2 };
+        assert_eq!(status, Some(expected), "{arguments:?}");
+    }
 }
 
 /// Runs a script from a file; the program may write as much as it likes.
@@ -155,21 +334,38 @@ fn from_file(script: &[u8]) -> Output {
 
 #[test]
 fn a_reader_that_goes_away() {
-    let mut child = Command::new(env!("CARGO_BIN_EXE_replay"))
-        .stdin(Stdio::piped())
-        .stdout(Stdio::piped())
-        .stderr(Stdio::piped())
-        .spawn()
-        .expect("the program starts");
+    let mut child = started(&[]);
     drop(child.stdout.take());
     let mut stdin = child.stdin.take().expect("standard input is a pipe");
     let _ = stdin.write_all(&b"show\n".repeat(20_000));
     drop(stdin);
     let output = child.wait_with_output().expect("the program ends");
     assert_eq!(output.status.code(), Some(2));
-    let sentence = String::from_utf8_lossy(&output.stderr);
-    assert!(sentence.contains("can't be written"), "{sentence}");
-    assert!(!sentence.contains("panicked"), "{sentence}");
+    assert_eq!(output.stderr, b"", "a closed pipe is silent");
+}
+
+#[cfg(target_os = "linux")]
+#[test]
+fn answers_that_cannot_be_written() {
+    for arguments in [&["/dev/stdin"][..], &["--help"]] {
+        let full = std::fs::File::create("/dev/full").expect("it is opened");
+        let mut command = Command::new(env!("CARGO_BIN_EXE_replay"));
+        command.args(arguments).stdin(Stdio::piped()).stdout(full);
+        let mut child = command
+            .stderr(Stdio::piped())
+            .spawn()
+            .expect("the program starts");
+        let mut stdin = child.stdin.take().expect("standard input is a pipe");
+        let _ = stdin.write_all(b"wfi\n");
+        drop(stdin);
+        let output = child.wait_with_output().expect("the program ends");
+        assert_eq!(output.status.code(), Some(2));
+        let sentence = String::from_utf8_lossy(&output.stderr);
+        assert!(
+            sentence.starts_with("replay: the answers can't be written"),
+            "{sentence}"
+        );
+    }
 }
 
 #[cfg(unix)]

@@ -1,0 +1,188 @@
+//! Events in words: what they came to, what they read and what they wrote.
+
+use crate::explain::{refusal, refused_why, Happened};
+use crate::names::{self, place};
+use crate::reason;
+use crate::registers::{self, HSTATUS, MSTATUS, SSTATUS, VSSTATUS};
+use crate::script::{Action, Event, Instruction};
+use balcumentri::{Accessed, Hart, Outcome};
+
+/// A register access: what it came to, and what it read or wrote.
+pub fn access(
+    happened: &Happened<'_>,
+    number: u64,
+    action: Action,
+    accessed: Accessed,
+) -> (Vec<String>, Option<String>) {
+    let form = match action {
+        Action::Read => "read of",
+        Action::Write(_) => "write to",
+        Action::Set(..) => "set of bits in",
+        Action::Clear(..) => "clear of bits in",
+    };
+    let reached = reached(happened.before, number);
+    let mut what = format!("{form} {}", registers::title(number));
+    if reached != number {
+        what += &format!(", which is {} here,", registers::title(reached));
+    }
+    let (mut lines, why) = event(happened, &what, accessed.outcome);
+    if accessed.outcome == Outcome::Done {
+        if action.writes() {
+            lines.extend(write_lines(happened.after, reached, action, accessed.value));
+        } else {
+            lines.push(content(reached, accessed.value));
+        }
+    }
+    (lines, why)
+}
+
+/// The register that a number reaches: with V=1 an S number reaches its VS register.
+fn reached(hart: &Hart, number: u64) -> u64 {
+    if hart.v() == 1 && number >> 8 == 1 && registers::name(number + 0x100).is_some() {
+        return number + 0x100;
+    }
+    number
+}
+
+/// What a register holds, decoded.
+fn content(number: u64, word: u64) -> String {
+    let register = registers::title(number);
+    match registers::decoded(number, word) {
+        words if words.is_empty() => format!("{register} {word:x}"),
+        words => format!("{register} {word:x}: {words}"),
+    }
+}
+
+/// What a write changed, and what of it was not stored.
+fn write_lines(after: &Hart, number: u64, action: Action, old: u64) -> Vec<String> {
+    let asked = action.asked(old);
+    let new = held(after, number);
+    let register = registers::title(number);
+    if let Some(mode) = registers::ignored(number, asked) {
+        return vec![format!(
+            "the write is ignored: MODE {mode:x} is neither 0 nor 8; {register} stays {old:x}"
+        )];
+    }
+    let change = match registers::changes(number, old, new) {
+        _ if old == new => format!("{register} stays {old:x}"),
+        words if words.is_empty() => format!("{register} {old:x} becomes {new:x}"),
+        words => format!("{register} {old:x} becomes {new:x}: {words}"),
+    };
+    let mut lines = vec![change];
+    lines.extend(registers::not_stored(number, asked, new));
+    lines
+}
+
+/// What a register shows: sstatus is a view of mstatus, hgeip a constant.
+fn held(hart: &Hart, number: u64) -> u64 {
+    let home = if number == SSTATUS { MSTATUS } else { number };
+    registers::view(number, hart.register(home).unwrap_or(0))
+}
+
+/// An event: what it came to, the mode and pc after it, and what it wrote.
+pub fn event(
+    happened: &Happened<'_>,
+    what: &str,
+    outcome: Outcome,
+) -> (Vec<String>, Option<String>) {
+    let (from, to) = (place(happened.before), place(happened.after));
+    match outcome {
+        Outcome::Done => {
+            let mut lines = vec![format!("{what} in {from}: done, on in {to}")];
+            if let Event::Perform(instruction) = happened.event {
+                lines.extend(return_writes(*instruction, happened));
+            }
+            (lines, None)
+        }
+        Outcome::Trapped(cause) => {
+            let name = names::titled_cause(cause);
+            let lines = vec![
+                format!("{what} in {from}: {name} goes to {to}"),
+                trap_writes(happened),
+            ];
+            let why =
+                matches!(cause, 2 | 22).then(|| reason::trapped(happened.before, happened.event));
+            (lines, why.flatten())
+        }
+        Outcome::Refused(number) => {
+            let lines = vec![format!("{what} in {from}: {}", refusal(number))];
+            (lines, refused_why(happened, number))
+        }
+    }
+}
+
+/// What a trap wrote, by where it went.
+fn trap_writes(happened: &Happened<'_>) -> String {
+    let from_guest = happened.before.v() == 1;
+    match (happened.after.v(), happened.after.privilege()) {
+        (0, 3) => wrote(
+            happened.after,
+            &[(MSTATUS, &["MPV", "MPP", "MPIE", "MIE", "GVA"])],
+            &[0x341, 0x342, 0x343, 0x34b, 0x34a],
+        ),
+        (0, _) => {
+            let saved: &[&str] = if from_guest {
+                &["SPV", "SPVP", "GVA"]
+            } else {
+                &["SPV", "GVA"]
+            };
+            wrote(
+                happened.after,
+                &[(HSTATUS, saved), (MSTATUS, &["SPP", "SPIE", "SIE"])],
+                &[0x141, 0x142, 0x143, 0x643, 0x64a],
+            )
+        }
+        _ => wrote(
+            happened.after,
+            &[(VSSTATUS, &["SPP", "SPIE", "SIE"])],
+            &[0x241, 0x242, 0x243],
+        ),
+    }
+}
+
+/// What a return wrote.
+fn return_writes(instruction: Instruction, happened: &Happened<'_>) -> Option<String> {
+    let before = happened.before;
+    let from_machine = registers::get(MSTATUS, "MPP", held(before, MSTATUS)) == 3;
+    let status: &[(u64, &[&str])] = match instruction {
+        Instruction::Mret if from_machine => &[(MSTATUS, &["MIE", "MPIE", "MPP", "MPV"])],
+        Instruction::Mret => &[(MSTATUS, &["MIE", "MPIE", "MPP", "MPV", "MPRV"])],
+        Instruction::Sret if before.v() == 1 => &[(VSSTATUS, &["SIE", "SPIE", "SPP"])],
+        Instruction::Sret => &[
+            (HSTATUS, &["SPV"]),
+            (MSTATUS, &["SIE", "SPIE", "SPP", "MPRV"]),
+        ],
+        _ => return None,
+    };
+    Some(wrote(happened.after, status, &[]))
+}
+
+/// Fields of status registers and whole registers, with what they hold.
+fn wrote(hart: &Hart, status: &[(u64, &[&str])], whole: &[u64]) -> String {
+    let mut parts = Vec::new();
+    for (number, names) in status {
+        let word = held(hart, *number);
+        let fields: Vec<String> = names
+            .iter()
+            .map(|name| format!("{name} {:x}", registers::get(*number, name, word)))
+            .collect();
+        let register = registers::name(*number).unwrap_or_default();
+        parts.push(format!("{register} {}", fields.join(", ")));
+    }
+    for number in whole {
+        let name = registers::name(*number).unwrap_or_default();
+        parts.push(format!("{name} {:x}", held(hart, *number)));
+    }
+    format!("it wrote {}", parts.join("; "))
+}
+
+/// A hart that was shown: where it is, whether the model takes it, and each register decoded.
+pub fn hart(hart: &Hart) -> Vec<String> {
+    let taken = match reason::hart_refused(hart) {
+        None => "the model takes it".to_owned(),
+        Some(why) => format!("the model refuses it as 2: {why}"),
+    };
+    let mut lines = vec![format!("{}; {taken}", place(hart))];
+    lines.extend(hart.registers().map(|(number, word)| content(number, word)));
+    lines
+}

@@ -1,0 +1,269 @@
+//! The twenty-nine registers: their names and bits, and their content in words.
+
+use crate::fields::{self, Field};
+use crate::names;
+
+/// What a register's content is made of.
+enum Shape {
+    /// Named fields.
+    Fields(&'static [Field]),
+    /// A bit for each cause.
+    Causes,
+    /// A cause.
+    Cause,
+    /// One number.
+    Number,
+}
+
+/// A register.
+struct Register {
+    number: u64,
+    name: &'static str,
+    shape: Shape,
+    /// The bits that can be other than 0.
+    used: u64,
+}
+
+const fn with_fields(number: u64, name: &'static str, fields: &'static [Field]) -> Register {
+    let (mut used, mut place) = (0, 0);
+    while place < fields.len() {
+        used |= fields[place].mask();
+        place += 1;
+    }
+    Register {
+        number,
+        name,
+        shape: Shape::Fields(fields),
+        used,
+    }
+}
+
+const fn with_bits(number: u64, name: &'static str, shape: Shape, used: u64) -> Register {
+    Register {
+        number,
+        name,
+        shape,
+        used,
+    }
+}
+
+const fn whole(number: u64, name: &'static str) -> Register {
+    with_bits(number, name, Shape::Number, u64::MAX)
+}
+
+const fn cause(number: u64, name: &'static str) -> Register {
+    with_bits(number, name, Shape::Cause, u64::MAX)
+}
+
+/// An address of an instruction.
+const fn epc(number: u64, name: &'static str) -> Register {
+    with_bits(number, name, Shape::Number, !3)
+}
+
+pub const SSTATUS: u64 = 0x100;
+pub const SATP: u64 = 0x180;
+pub const VSSTATUS: u64 = 0x200;
+pub const VSATP: u64 = 0x280;
+pub const MSTATUS: u64 = 0x300;
+pub const HSTATUS: u64 = 0x600;
+pub const HGATP: u64 = 0x680;
+
+/// In rising order of number.
+const REGISTERS: [Register; 29] = [
+    with_fields(SSTATUS, "sstatus", fields::SSTATUS),
+    with_fields(0x105, "stvec", fields::TVEC),
+    whole(0x140, "sscratch"),
+    epc(0x141, "sepc"),
+    cause(0x142, "scause"),
+    whole(0x143, "stval"),
+    with_fields(SATP, "satp", fields::SATP),
+    with_fields(VSSTATUS, "vsstatus", fields::SSTATUS),
+    with_fields(0x205, "vstvec", fields::TVEC),
+    whole(0x240, "vsscratch"),
+    epc(0x241, "vsepc"),
+    cause(0x242, "vscause"),
+    whole(0x243, "vstval"),
+    with_fields(VSATP, "vsatp", fields::SATP),
+    with_fields(MSTATUS, "mstatus", fields::MSTATUS),
+    with_bits(0x302, "medeleg", Shape::Causes, 0xf0_b7ff),
+    with_fields(0x305, "mtvec", fields::TVEC),
+    whole(0x340, "mscratch"),
+    epc(0x341, "mepc"),
+    cause(0x342, "mcause"),
+    whole(0x343, "mtval"),
+    whole(0x34a, "mtinst"),
+    whole(0x34b, "mtval2"),
+    with_fields(HSTATUS, "hstatus", fields::HSTATUS),
+    with_bits(0x602, "hedeleg", Shape::Causes, 0xb1ff),
+    whole(0x643, "htval"),
+    whole(0x64a, "htinst"),
+    with_bits(HGATP, "hgatp", Shape::Fields(fields::HGATP), !(3 << 58 | 3)),
+    with_bits(0xe12, "hgeip", Shape::Number, 0),
+];
+
+fn find(number: u64) -> Option<&'static Register> {
+    REGISTERS.iter().find(|register| register.number == number)
+}
+
+/// The registers' numbers and names.
+pub fn listed() -> impl Iterator<Item = (u64, &'static str)> {
+    REGISTERS
+        .iter()
+        .map(|register| (register.number, register.name))
+}
+
+/// The name of the register with a number.
+pub fn name(number: u64) -> Option<&'static str> {
+    find(number).map(|register| register.name)
+}
+
+/// The register with a number, by name and number.
+pub fn title(number: u64) -> String {
+    format!(
+        "{} ({number:x})",
+        name(number).unwrap_or("no listed register")
+    )
+}
+
+/// The named fields of a register; none where it is one number.
+fn fields(number: u64) -> &'static [Field] {
+    match find(number).map(|register| &register.shape) {
+        Some(Shape::Fields(fields)) => fields,
+        _ => &[],
+    }
+}
+
+fn used(number: u64) -> u64 {
+    find(number).map_or(0, |register| register.used)
+}
+
+/// What a field of a register's content holds; 0 where there is none.
+pub fn get(number: u64, name: &str, word: u64) -> u64 {
+    let found = fields(number).iter().find(|field| field.name == name);
+    found.map_or(0, |field| field.of(word))
+}
+
+/// What a register's view shows of the word that is kept for it.
+pub fn view(number: u64, word: u64) -> u64 {
+    word & used(number)
+}
+
+/// The lowest field of a register that holds what no write stores: its name, its value and what it may hold.
+pub fn stray(number: u64, word: u64) -> Option<(String, u64, String)> {
+    let wrong = fields(number)
+        .iter()
+        .filter(|field| !field.takes(field.of(word)));
+    let wrong = wrong.min_by_key(|field| field.low);
+    let bits = word & !used(number);
+    match wrong {
+        Some(field) if bits == 0 || field.low < bits.trailing_zeros() => {
+            Some((field.name.to_owned(), field.of(word), field.choices()))
+        }
+        _ if bits == 0 => None,
+        _ => Some((format!("bit {}", bits.trailing_zeros()), 1, "0".to_owned())),
+    }
+}
+
+/// A register's content in words; empty where the number says it all.
+pub fn decoded(number: u64, word: u64) -> String {
+    match find(number).map(|register| &register.shape) {
+        Some(Shape::Fields(fields)) => parts(number, fields, word).join(", "),
+        Some(Shape::Causes) => delegated(word),
+        Some(Shape::Cause) => names::cause(word).unwrap_or("").to_owned(),
+        Some(Shape::Number) | None => String::new(),
+    }
+}
+
+/// The causes that a delegation register hands down.
+fn delegated(word: u64) -> String {
+    let causes: Vec<String> = (0..64)
+        .filter(|cause| word >> cause & 1 == 1)
+        .map(names::titled_cause)
+        .collect();
+    if causes.is_empty() {
+        return "hands no cause down".to_owned();
+    }
+    format!("hands down {}", causes.join(", "))
+}
+
+/// The bits that are set by name, and the wider fields with what they hold.
+fn parts(number: u64, fields: &[Field], word: u64) -> Vec<String> {
+    let mut parts = Vec::new();
+    for field in fields {
+        let value = field.of(word);
+        if field.is_bit() {
+            if value == 1 {
+                parts.push(field.name.to_owned());
+            }
+        } else {
+            parts.push(format!("{} {}", field.name, meaning(number, field, value)));
+        }
+    }
+    parts
+}
+
+/// A field's value, with what it stands for.
+fn meaning(number: u64, field: &Field, value: u64) -> String {
+    let name = match (field.name, value) {
+        ("MODE", 0) if !field.is_bit() => "Bare",
+        ("MODE", 8) if number == HGATP => "Sv39x4",
+        ("MODE", 8) => "Sv39",
+        ("MPP", 0) => "U",
+        ("MPP", 1) => "S",
+        ("MPP", 3) => "M",
+        ("UXL" | "SXL" | "VSXL", 2) => "64 bits",
+        ("PPN", _) => return format!("{value:x} (address {:x})", value << 12),
+        ("BASE", _) => return format!("{:x}", value << field.low),
+        _ => return format!("{value:x}"),
+    };
+    format!("{value:x} ({name})")
+}
+
+/// How a register's content changed, field by field.
+pub fn changes(number: u64, old: u64, new: u64) -> String {
+    let mut changes = Vec::new();
+    for field in fields(number) {
+        let (was, is) = (field.of(old), field.of(new));
+        if was != is {
+            let (was, is) = (meaning(number, field, was), meaning(number, field, is));
+            changes.push(format!("{} {was} to {is}", field.name));
+        }
+    }
+    if let Some(Shape::Causes) = find(number).map(|register| &register.shape) {
+        for cause in (0..64).filter(|cause| (old ^ new) >> cause & 1 == 1) {
+            let (was, is) = (old >> cause & 1, new >> cause & 1);
+            changes.push(format!("{} {was} to {is}", names::titled_cause(cause)));
+        }
+    }
+    changes.join(", ")
+}
+
+/// The MODE for which a write to satp or vsatp does nothing.
+pub fn ignored(number: u64, asked: u64) -> Option<u64> {
+    let mode = get(number, "MODE", asked);
+    (matches!(number, SATP | VSATP) && !matches!(mode, 0 | 8)).then_some(mode)
+}
+
+/// What of a write was not stored: a sentence for each field that kept what it held, and one for bits that are always 0.
+/// `asked` is the word that the write asked for, `new` what is stored.
+pub fn not_stored(number: u64, asked: u64, new: u64) -> Vec<String> {
+    let mut sentences = Vec::new();
+    for field in fields(number).iter().filter(|field| !field.is_constant()) {
+        let value = field.of(asked);
+        if !field.takes(value) {
+            sentences.push(format!(
+                "{} {value:x} is not stored, it may hold {}: it keeps {}",
+                field.name,
+                field.choices(),
+                meaning(number, field, field.of(new))
+            ));
+        }
+    }
+    let dropped = asked & !used(number);
+    if dropped != 0 {
+        sentences.push(format!(
+            "bits {dropped:x} are not stored: they are always 0"
+        ));
+    }
+    sentences
+}
