@@ -58,8 +58,8 @@ fn the_pictures() {
     }
 }
 
-/// The explanations of a script, without answers and the lines that quote the script.
-fn lines(script: &str) -> Vec<String> {
+/// What the program writes with `--explain`.
+fn text(script: &str) -> String {
     let mut child = Command::new(env!("CARGO_BIN_EXE_replay"))
         .arg("--explain")
         .stdin(Stdio::piped())
@@ -72,7 +72,12 @@ fn lines(script: &str) -> Vec<String> {
         .expect("the script is written");
     drop(stdin);
     let output = child.wait_with_output().expect("the program ends").stdout;
-    let text = String::from_utf8(output).expect("explanations are text");
+    String::from_utf8(output).expect("explanations are text")
+}
+
+/// The explanations of a script, without answers and the lines that quote the script.
+fn lines(script: &str) -> Vec<String> {
+    let text = text(script);
     let lines = text.lines().filter_map(|line| line.strip_prefix("# "));
     lines
         .filter(|line| !line.starts_with("line "))
@@ -137,4 +142,17 @@ fn a_missing_page_is_named() {
     let said = lines("image 1000 1000\nload 2468 8\n");
     let why = "why: the access: 2468 is outside the image: page 2000 is missing";
     assert_eq!(said.last().map(String::as_str), Some(why));
+}
+
+#[test]
+fn the_languages_page_shows_what_the_program_writes() {
+    let page = Path::new(env!("CARGO_MANIFEST_DIR")).join("../../docs/REPLAY.md");
+    let page = std::fs::read_to_string(page).expect("the page is read");
+    for script in [
+        "hart 1 1 1000\nreg 302 400\nreg 105 2000\necall\nwrite 180 5000000000000000\n",
+        "reg 300 a00001000\nwfi\n",
+    ] {
+        let sample = format!("```text\n{}```\n", text(script));
+        assert!(page.contains(&sample), "{sample}");
+    }
 }

@@ -437,4 +437,5 @@ fn the_readmes_tour_is_what_the_program_writes() {
     assert!(text(script).contains(blocks[0]));
     let explained = replay(&["--explain", &format!("{home}{script}")], b"").stdout;
     assert!(explained.starts_with(blocks[1].as_bytes()));
+    assert!(text("examples/deepest-walk.tree").contains(blocks[2]));
 }
