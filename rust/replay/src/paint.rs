@@ -1,5 +1,6 @@
 //! Colours for a terminal.
 
+use std::ffi::OsStr;
 use std::io::{self, IsTerminal};
 
 /// Colours text, or leaves it plain.
@@ -9,12 +10,12 @@ pub struct Paint {
 }
 
 impl Paint {
-    /// Colours where standard output is a terminal and the environment doesn't ask for none.
+    /// As standard output and the environment have it.
     pub fn for_output() -> Self {
-        let refused = std::env::var_os("NO_COLOR").is_some_and(|value| !value.is_empty());
-        let dumb = std::env::var_os("TERM").is_none_or(|term| term == "dumb");
+        let variable = |name| std::env::var_os(name).unwrap_or_default();
+        let terminal = io::stdout().is_terminal();
         Paint {
-            on: io::stdout().is_terminal() && !refused && !dumb,
+            on: wanted(terminal, &variable("NO_COLOR"), &variable("TERM")),
         }
     }
 
@@ -44,5 +45,33 @@ impl Paint {
         } else {
             text.to_owned()
         }
+    }
+}
+
+/// Colours are for a terminal that has them, unless NO_COLOR asks for none.
+fn wanted(terminal: bool, no_color: &OsStr, term: &OsStr) -> bool {
+    terminal && no_color.is_empty() && !term.is_empty() && term != "dumb"
+}
+
+#[cfg(test)]
+mod tests {
+    use super::*;
+
+    #[test]
+    fn colours_are_for_terminals() {
+        let wanted = |terminal, no_color: &str, term: &str| {
+            wanted(terminal, no_color.as_ref(), term.as_ref())
+        };
+        assert!(wanted(true, "", "xterm"));
+        assert!(!wanted(false, "", "xterm"));
+        assert!(!wanted(true, "1", "xterm"));
+        assert!(!wanted(true, "", "dumb"));
+        assert!(!wanted(true, "", ""));
+    }
+
+    #[test]
+    fn plain_text_stays() {
+        assert_eq!(Paint { on: false }.bad("why"), "why");
+        assert_eq!(Paint { on: true }.bad("why"), "\x1b[31mwhy\x1b[0m");
     }
 }

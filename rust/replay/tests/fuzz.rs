@@ -8,12 +8,12 @@ use std::io;
 use std::path::Path;
 use std::process::Command;
 
-/// The program with `--explain`, its explanations left out.
-struct Explained<'a>(&'a Folder);
+/// The program with an option that explains, its explanations left out.
+struct Explained<'a>(&'a Folder, &'static str);
 
 impl Program for Explained<'_> {
     fn name(&self) -> String {
-        "replay --explain".to_string()
+        format!("replay {}", self.1)
     }
 
     fn run(&self, script: &Script) -> io::Result<Outcome> {
@@ -21,7 +21,7 @@ impl Program for Explained<'_> {
         std::fs::write(&file, script.bytes())?;
         let output = Command::new(env!("CARGO_BIN_EXE_replay"))
             .current_dir(self.0.path())
-            .args(["--explain", "script.replay"])
+            .args([self.1, "script.replay"])
             .output()?;
         let lines = output.stdout.split_inclusive(|byte| *byte == b'\n');
         let answers: Vec<&[u8]> = lines.filter(|line| !line.starts_with(b"# ")).collect();
@@ -58,5 +58,6 @@ fn the_program() {
 #[test]
 fn the_program_with_explanations() {
     let folder = Folder::new().unwrap();
-    run(&Explained(&folder), &folder, 3);
+    run(&Explained(&folder, "--explain"), &folder, 3);
+    run(&Explained(&folder, "--explain=tree"), &folder, 4);
 }
