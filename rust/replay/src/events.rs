@@ -1,7 +1,7 @@
 //! Events in words: what they came to, what they read and what they wrote.
 
-use crate::explain::{refusal, refused_why, Happened};
-use crate::names::{self, place};
+use crate::explain::{refusal, Explanation, Happened};
+use crate::names::{self, place, Mode};
 use crate::reason;
 use crate::registers::{self, HSTATUS, MSTATUS, SSTATUS, VSSTATUS};
 use crate::script::{Action, Event, Instruction};
@@ -13,7 +13,7 @@ pub fn access(
     number: u64,
     action: Action,
     accessed: Accessed,
-) -> (Vec<String>, Option<String>) {
+) -> Explanation {
     let form = match action {
         Action::Read => "read of",
         Action::Write(_) => "write to",
@@ -25,21 +25,23 @@ pub fn access(
     if reached != number {
         what += &format!(", which is {} here,", registers::title(reached));
     }
-    let (mut lines, why) = event(happened, &what, accessed.outcome);
+    let mut explanation = event(happened, &what, accessed.outcome);
     if accessed.outcome == Outcome::Done {
-        if action.writes() {
-            lines.extend(write_lines(happened.after, reached, action, accessed.value));
+        explanation.lines.extend(if action.writes() {
+            write_lines(happened.after, reached, action, accessed.value)
         } else {
-            lines.push(content(reached, accessed.value));
-        }
+            vec![content(reached, accessed.value)]
+        });
     }
-    (lines, why)
+    explanation
 }
 
-/// The register that a number reaches: with V=1 an S number reaches its VS register.
+/// The register that a number reaches: in VS an S number reaches its VS register.
 fn reached(hart: &Hart, number: u64) -> u64 {
-    if hart.v() == 1 && number >> 8 == 1 && registers::name(number + 0x100).is_some() {
-        return number + 0x100;
+    let twin = number.wrapping_add(0x100);
+    let in_vs = Mode::of_hart(hart) == Some(Mode::Vs);
+    if in_vs && number >> 8 == 1 && registers::name(twin).is_some() {
+        return twin;
     }
     number
 }
@@ -80,11 +82,7 @@ fn held(hart: &Hart, number: u64) -> u64 {
 }
 
 /// An event: what it came to, the mode and pc after it, and what it wrote.
-pub fn event(
-    happened: &Happened<'_>,
-    what: &str,
-    outcome: Outcome,
-) -> (Vec<String>, Option<String>) {
+pub fn event(happened: &Happened<'_>, what: &str, outcome: Outcome) -> Explanation {
     let (from, to) = (place(happened.before), place(happened.after));
     match outcome {
         Outcome::Done => {
@@ -92,22 +90,39 @@ pub fn event(
             if let Event::Perform(instruction) = happened.event {
                 lines.extend(return_writes(*instruction, happened));
             }
-            (lines, None)
+            Explanation { lines, why: None }
         }
-        Outcome::Trapped(cause) => {
-            let name = names::titled_cause(cause);
-            let lines = vec![
-                format!("{what} in {from}: {name} goes to {to}"),
+        Outcome::Trapped(cause) => Explanation {
+            lines: vec![
+                format!(
+                    "{what} in {from}: {} goes to {to}",
+                    names::titled_cause(cause)
+                ),
+                delegation(happened).to_owned(),
                 trap_writes(happened),
-            ];
-            let why =
-                matches!(cause, 2 | 22).then(|| reason::trapped(happened.before, happened.event));
-            (lines, why.flatten())
-        }
-        Outcome::Refused(number) => {
-            let lines = vec![format!("{what} in {from}: {}", refusal(number))];
-            (lines, refused_why(happened, number))
-        }
+            ],
+            why: match cause {
+                2 | 22 => reason::trapped(happened.before, happened.event),
+                _ => None,
+            },
+        },
+        Outcome::Refused(number) => Explanation {
+            lines: vec![format!("{what} in {from}: {}", refusal(number))],
+            why: happened.refused(number),
+        },
+    }
+}
+
+/// Why a trap went where it went.
+fn delegation(happened: &Happened<'_>) -> &'static str {
+    let from = Mode::of_hart(happened.before);
+    let guest = from.is_some_and(Mode::is_guest);
+    match Mode::of_hart(happened.after) {
+        Some(Mode::M) if from == Some(Mode::M) => "to M: a trap from M stays there",
+        Some(Mode::M) => "to M: medeleg does not hand it down",
+        Some(Mode::Hs) if guest => "to HS: medeleg hands it down, hedeleg does not",
+        Some(Mode::Hs) => "to HS: medeleg hands it down",
+        _ => "to VS: medeleg and hedeleg hand it down",
     }
 }
 

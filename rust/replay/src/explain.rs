@@ -41,11 +41,24 @@ pub struct Happened<'a> {
     pub image: Image<'a>,
 }
 
+impl Happened<'_> {
+    /// Why it was refused.
+    pub fn refused(&self, number: u64) -> Option<String> {
+        reason::refused(number, self.before, self.image, self.event)
+    }
+}
+
+/// What happened, line by line, and why that was a refusal, a fault or an instruction's trap.
+pub struct Explanation {
+    pub lines: Vec<String>,
+    pub why: Option<String>,
+}
+
 impl Explainer {
     /// The line, what it came to, and why that was a refusal, a fault or an instruction's trap.
     pub fn explain(&self, out: &mut impl Write, happened: &Happened<'_>) -> io::Result<()> {
         writeln!(out, "# line {}: {}", happened.line, happened.text)?;
-        let (lines, why) = match (happened.event, happened.came) {
+        let explanation = match (happened.event, happened.came) {
             (Event::Translate(access), Came::Translated(translation)) => {
                 self.translation(happened, *access, translation)
             }
@@ -56,12 +69,15 @@ impl Explainer {
                 events::event(happened, instruction.name(), *outcome)
             }
             (_, Came::Stepped(outcome)) => events::event(happened, "trap request", *outcome),
-            _ => (events::hart(happened.after), None),
+            _ => Explanation {
+                lines: events::hart(happened.after),
+                why: None,
+            },
         };
-        for line in lines {
+        for line in explanation.lines {
             writeln!(out, "# {line}")?;
         }
-        match why {
+        match explanation.why {
             Some(why) => writeln!(out, "# {}", self.paint.bad(&format!("why: {why}"))),
             None => Ok(()),
         }
@@ -73,26 +89,30 @@ impl Explainer {
         happened: &Happened<'_>,
         access: Access,
         translation: &Translation,
-    ) -> (Vec<String>, Option<String>) {
+    ) -> Explanation {
         let answer = translation.answer();
-        let view = View::new(happened.before, access.kind);
-        let (Some(view), Answer::Address(_) | Answer::Fault(_)) = (view, answer) else {
-            let lines = vec![bytes_at(access), self.ending(answer)];
-            return (lines, refused_why(happened, refusal_of(answer)));
+        let ending = self.ending(answer);
+        if let Answer::Refused(number) = answer {
+            return Explanation {
+                lines: vec![bytes_at(access), ending],
+                why: happened.refused(number),
+            };
+        }
+        let Some(view) = View::new(happened.before, access.kind) else {
+            return Explanation {
+                lines: vec![ending],
+                why: None,
+            };
         };
         let walk = walk::follow(&view, access, translation);
         let heading = heading(access, &view);
-        let ending = self.ending(answer);
-        let lines = match self.form {
-            Form::Words => {
-                let mut lines = vec![heading];
-                walk_lines(&walk, &mut lines);
-                lines.push(ending);
-                lines
-            }
-            Form::Tree => tree::drawn(self.paint, heading, &walk, ending),
-        };
-        (lines, walk.stop.map(|stop| stop.to_string()))
+        Explanation {
+            lines: match self.form {
+                Form::Words => walk_lines(heading, &walk, ending),
+                Form::Tree => tree::drawn(self.paint, heading, &walk, ending),
+            },
+            why: walk.stop.map(|stop| stop.to_string()),
+        }
     }
 
     /// How a translation ended.
@@ -107,19 +127,8 @@ impl Explainer {
     }
 }
 
-fn refusal_of(answer: Answer) -> u64 {
-    match answer {
-        Answer::Refused(number) => number,
-        Answer::Address(_) | Answer::Fault(_) => 0,
-    }
-}
-
 pub fn refusal(number: u64) -> String {
     format!("refused as {number:x}: {}", names::refusal(number))
-}
-
-pub fn refused_why(happened: &Happened<'_>, number: u64) -> Option<String> {
-    reason::refused(number, happened.before, happened.image, happened.event)
 }
 
 fn bytes_at(access: Access) -> String {
@@ -163,10 +172,13 @@ fn fault_words(fault: Fault) -> String {
 }
 
 /// Each entry of a walk, and each second-stage walk with the address that it is for.
-fn walk_lines(walk: &Walk, lines: &mut Vec<String>) {
+fn walk_lines(heading: String, walk: &Walk, ending: String) -> Vec<String> {
+    let mut lines = vec![heading];
     for stage in [&walk.first, &walk.second].into_iter().flatten() {
-        stage_lines(stage, "the access", lines);
+        stage_lines(stage, "the access", &mut lines);
     }
+    lines.push(ending);
+    lines
 }
 
 fn stage_lines(stage: &Stage, purpose: &str, lines: &mut Vec<String>) {
