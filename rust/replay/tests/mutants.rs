@@ -1,0 +1,219 @@
+//! Altered copies of the explainer, one small change each, compiled and run: the golden explanations of the examples or the
+//! comparison with the second program's reasons must catch each of them. This takes minutes, so it runs only when asked for, with
+//! the programs built:
+//!
+//! `cargo build --release && cargo test --release -p replay --test mutants -- --ignored --nocapture`
+
+use compare::program::Folder;
+use std::path::{Path, PathBuf};
+use std::process::Command;
+
+/// A change: the file, the text that is there once, and the text that takes its place.
+struct Mutant(&'static str, &'static str, &'static str);
+
+#[rustfmt::skip]
+const MUTANTS: &[Mutant] = &[
+    // where a walk goes
+    Mutant("walk.rs", "mode == Mode::M && kind != Kind::Fetch &&", "mode == Mode::M &&"),
+    Mutant("walk.rs", "if status(\"MPP\") == 3 { 0 } else { status(\"MPV\") }", "status(\"MPV\") & 1"),
+    Mutant("walk.rs", "let own = if guest { VSSTATUS } else { MSTATUS };", "let own = MSTATUS; let _ = guest;"),
+    Mutant("walk.rs", "guest_mxr: guest && get(VSSTATUS,", "guest_mxr: get(VSSTATUS,"),
+    Mutant("walk.rs", "_ if guest => table(VSATP, Part::Vsatp),", "_ if guest => table(SATP, Part::Vsatp),"),
+    Mutant("walk.rs", "Mode::M => None,\n                _ if guest", "_ if guest"),
+    Mutant("walk.rs", "if wide { 0x7ff } else { 0x1ff }", "if wide { 0x3ff } else { 0x1ff }"),
+    Mutant("walk.rs", "12 + 9 * level", "12 + 8 * level"),
+    Mutant("walk.rs", "self.table + 8 * self.index", "self.table + 4 * self.index"),
+    Mutant("walk.rs", "((1 << 44) - 1)) << 12", "((1 << 42) - 1)) << 12"),
+    Mutant("walk.rs", "return Ok(page | address &", "return Ok(page | (address + 1) &"),
+    // why it ended
+    Mutant("walk.rs", "(address >> 41 != 0)", "(address >> 40 != 0)"),
+    Mutant("walk.rs", "let high = address >> 38;", "let high = address >> 39 << 1;"),
+    Mutant("walk.rs", "let page = address & !0xfff;", "let page = address & !0x1fff;"),
+    Mutant("walk.rs", "has(entry, W) && !has(entry, R) {\n            Err(", "has(entry, W) && !has(entry, R) && !has(entry, X) {\n            Err("),
+    Mutant("walk.rs", "Err(\"a bit of 63:54 is set\")", "Err(\"a bit of 63:53 is set\")"),
+    Mutant("walk.rs", "entry >> 54 != 0", "entry >> 55 != 0"),
+    Mutant("walk.rs", "} else if pointer && has(entry, D) {", "} else if has(entry, D) && pointer && level > 0 {"),
+    Mutant("walk.rs", "} else if pointer && has(entry, U) {", "} else if pointer && has(entry, 5) {"),
+    Mutant("walk.rs", "pointer && level == 0", "pointer && level == 1"),
+    Mutant("walk.rs", "target(entry) >> 12 & low_ppn != 0", "target(entry) >> 13 & low_ppn != 0"),
+    Mutant("walk.rs", "Part::GuestEntry => Kind::Load,", "Part::GuestEntry => self.view.kind,"),
+    Mutant("walk.rs", "if !has(entry, A) {\n            return Err(\"A is 0\");", "if !has(entry, A) && has(entry, D) {\n            return Err(\"A is 0\");"),
+    Mutant("walk.rs", "if kind == Kind::Store && !has(entry, D) {", "if kind == Kind::Store && !has(entry, W) {"),
+    Mutant("walk.rs", "Part::Satp | Part::Access => (mxr,", "Part::Satp | Part::Access => (mxr || guest_mxr,"),
+    Mutant("walk.rs", "(mxr || guest_mxr, load)", "(guest_mxr, load)"),
+    Mutant("walk.rs", "Part::GuestEntry => (false,", "Part::GuestEntry => (mxr,"),
+    Mutant("walk.rs", "(true, false) => Err(\"user mode needs U\"),", "(true, false) => Err(\"the second stage needs U\"),"),
+    Mutant("walk.rs", "(false, true) if !sum && mode.is_guest()", "(false, true) if !sum && !mode.is_guest()"),
+    Mutant("walk.rs", "format!(\"second stage for the guest entry at {address:x}\")", "format!(\"second stage for the access at {address:x}\")"),
+    // what an entry is
+    Mutant("walk.rs", "\"VRWXUGAD\"", "\"VRWXUGDA\""),
+    Mutant("walk.rs", "} else if has(entry, W) && !has(entry, R) {\n        \"neither", "} else if false {\n        \"neither"),
+    Mutant("walk.rs", "1 => \"2 MiB\",", "1 => \"4 MiB\","),
+    Mutant("walk.rs", "let guest = if part == Part::Vsatp {", "let guest = if part.is_first() {"),
+    // refusals
+    Mutant("reason.rs", "length > 0x400_0000", "length > 0x800_0000"),
+    Mutant("reason.rs", "!base.is_multiple_of(0x1000)", "!base.is_multiple_of(0x800)"),
+    Mutant("reason.rs", "end > 1 << 56", "end > 1 << 57"),
+    Mutant("reason.rs", "kind == Kind::Fetch && width != 4", "width != 4 && !address.is_multiple_of(4)"),
+    Mutant("reason.rs", "8 => (mode.is_user(), \"U and VU\")", "8 => (mode == Mode::U, \"U and VU\")"),
+    Mutant("reason.rs", "9 => (mode == Mode::Hs, \"HS\")", "9 => (mode == Mode::Hs, \"S\")"),
+    Mutant("reason.rs", "let guest_page = matches!(cause, 20 | 21 | 23);", "let guest_page = matches!(cause, 20..=23);"),
+    Mutant("reason.rs", "call || matches!(cause, 2 | 22)", "call || cause == 2"),
+    Mutant("reason.rs", "hart.pc().is_multiple_of(4)", "hart.pc().is_multiple_of(2)"),
+    Mutant("reason.rs", "(mode != Mode::M && control", "(mode.is_guest() && control"),
+    Mutant("fields.rs", "field(\"MPP\", 12, 11, &[0, 1, 3])", "field(\"MPP\", 12, 11, &[0, 1, 2, 3])"),
+    Mutant("fields.rs", "field(\"SXL\", 35, 34, &[2])", "field(\"SXL\", 35, 34, &[])"),
+    Mutant("fields.rs", "field(\"VSXL\", 33, 32, &[2])", "field(\"UXL\", 33, 32, &[2])"),
+    Mutant("fields.rs", "bit(\"HU\", 9),", "bit(\"HU\", 10),"),
+    Mutant("registers.rs", "Shape::Causes, 0xf0_b7ff", "Shape::Causes, 0xf0_bfff"),
+    Mutant("registers.rs", "Shape::Causes, 0xb1ff", "Shape::Causes, 0xb3ff"),
+    Mutant("registers.rs", "!(3 << 58 | 3)", "!(3 << 58)"),
+    Mutant("registers.rs", "with_bits(number, name, Shape::Number, !3)", "with_bits(number, name, Shape::Number, !1)"),
+    Mutant("registers.rs", "field.low < bits.trailing_zeros()", "field.low > bits.trailing_zeros()"),
+    // traps of instructions
+    Mutant("reason.rs", "writes && number >> 10 == 3", "number >> 10 == 3"),
+    Mutant("reason.rs", "Mode::Hs => !matches!(level(number), Level::M),", "Mode::Hs => matches!(level(number), Level::S),"),
+    Mutant("reason.rs", "(Mode::Hs, SATP | HGATP)", "(Mode::Hs, SATP)"),
+    Mutant("reason.rs", "(Mode::Vs, SATP) => set(hart, HSTATUS, \"VTVM\")", "(Mode::Vs, SATP) => set(hart, MSTATUS, \"TVM\")"),
+    Mutant("reason.rs", "if instruction == Wfi && control(hart, MSTATUS, \"TW\")", "if instruction == Wfi && !mode.is_user() && control(hart, MSTATUS, \"TW\")"),
+    Mutant("reason.rs", "HfenceVvma | HfenceGvma => matches!(mode, Mode::M | Mode::Hs),", "HfenceVvma | HfenceGvma => mode == Mode::M,"),
+    Mutant("reason.rs", "(Wfi, Mode::Vs) => set(hart, HSTATUS, \"VTW\")", "(Wfi, Mode::Vs) => set(hart, HSTATUS, \"VTSR\")"),
+    Mutant("reason.rs", "(SfenceVma | HfenceGvma, Mode::Hs)", "(HfenceVvma | HfenceGvma, Mode::Hs)"),
+    // what else is said
+    Mutant("events.rs", "&[\"SPV\", \"SPVP\", \"GVA\"]", "&[\"SPV\", \"GVA\"]"),
+    Mutant("events.rs", "&[0x241, 0x242, 0x243]", "&[0x141, 0x142, 0x143]"),
+    Mutant("events.rs", "let in_vs = Mode::of_hart(hart) == Some(Mode::Vs);", "let in_vs = false; let _ = hart;"),
+    Mutant("events.rs", "if number == SSTATUS { MSTATUS } else { number }", "number"),
+    Mutant("events.rs", "_ if old == new => format!(\"{register} stays {old:x}\"),", ""),
+    Mutant("events.rs", "Some(Mode::Hs) if guest =>", "Some(Mode::Hs) if !guest =>"),
+    Mutant("registers.rs", "(matches!(number, SATP | VSATP) &&", "(number == VSATP &&"),
+    Mutant("registers.rs", "let dropped = asked & !used(number);", "let dropped = asked & !used(number) & 0xff;"),
+    Mutant("registers.rs", "(\"MPP\", 1) => \"S\",", "(\"MPP\", 1) => \"M\","),
+    Mutant("names.rs", "9 => \"environment call from HS\",", "9 => \"environment call from VS\","),
+    Mutant("explain.rs", "\"the guest entry at level {:x}\"", "\"the guest entry at entry {:x}\""),
+    Mutant("explain.rs", "if view.by_mprv { \", by MPRV\" }", "if false { \", by MPRV\" }"),
+    Mutant("explain.rs", "if matches!(fault.cause, 20 | 21 | 23) {", "if fault.second != 0 && fault.cause == 21 {"),
+    Mutant("tree.rs", "below.extend(step_node(paint, stage, others));", "let _ = others;"),
+    Mutant("tree.rs", "step.index,\n        step.address()", "step.level,\n        step.address()"),
+];
+
+fn source() -> PathBuf {
+    Path::new(env!("CARGO_MANIFEST_DIR")).join("src")
+}
+
+/// The text of a mutant's file with its change.
+fn changed_text(mutant: &Mutant) -> String {
+    let Mutant(file, from, to) = mutant;
+    let text = std::fs::read_to_string(source().join(file)).expect("the source is read");
+    let count = text.matches(from).count();
+    assert_eq!(count, 1, "{file}: {from:?} is there once");
+    text.replace(from, to)
+}
+
+#[test]
+fn every_mutant_still_fits_the_source() {
+    for mutant in MUTANTS {
+        changed_text(mutant);
+    }
+}
+
+/// The folder of the built programs.
+fn built() -> PathBuf {
+    let test = std::env::current_exe().expect("the test knows its path");
+    let folder = test.parent().and_then(Path::parent);
+    folder.expect("it lies in deps").to_owned()
+}
+
+/// The wrapper's compiled library: the newest, if several were built.
+fn wrapper() -> PathBuf {
+    let files = std::fs::read_dir(built().join("deps")).expect("the libraries are read");
+    let paths = files.map(|file| file.expect("a file is read").path());
+    let found = paths.filter(|path| {
+        let name = path.file_name().unwrap_or_default().to_string_lossy();
+        name.starts_with("libbalcumentri-") && name.ends_with(".rlib")
+    });
+    let newest = found.max_by_key(|path| path.metadata().and_then(|data| data.modified()).ok());
+    newest.expect("the wrapper is built")
+}
+
+/// Compiles the program with one change; its path.
+fn build(mutant: &Mutant, folder: &Path) -> PathBuf {
+    let _ = std::fs::remove_dir_all(folder);
+    std::fs::create_dir_all(folder).expect("a folder is made");
+    for entry in std::fs::read_dir(source()).expect("the sources are read") {
+        let path = entry.expect("a file is read").path();
+        let copy = folder.join(path.file_name().unwrap_or_default());
+        std::fs::copy(&path, copy).expect("the source is copied");
+    }
+    let Mutant(file, from, to) = mutant;
+    std::fs::write(folder.join(file), changed_text(mutant)).expect("the change is written");
+    let rustc = std::env::var_os("RUSTC").unwrap_or_else(|| "rustc".into());
+    let mut wrapper_option = std::ffi::OsString::from("balcumentri=");
+    wrapper_option.push(wrapper());
+    let status = Command::new(rustc)
+        .current_dir(folder)
+        .env("CARGO_PKG_VERSION", env!("CARGO_PKG_VERSION"))
+        .args([
+            "--edition",
+            "2021",
+            "--cap-lints",
+            "allow",
+            "-C",
+            "opt-level=1",
+        ])
+        .args(["--crate-name", "mutant", "main.rs", "--extern"])
+        .arg(wrapper_option)
+        .status();
+    let compiled = status.expect("the compiler runs").success();
+    assert!(compiled, "{file}: {from:?} compiles as {to:?}");
+    folder.join("mutant")
+}
+
+/// Whether a program explains an example, or draws it, otherwise than its golden file.
+fn changes_an_example(program: &Path) -> bool {
+    let examples = Path::new(env!("CARGO_MANIFEST_DIR")).join("../../examples");
+    let mut files = std::fs::read_dir(examples).expect("the examples are read");
+    files.any(|file| {
+        let golden = file.expect("a file is read").path();
+        let option = match golden.extension().and_then(|end| end.to_str()) {
+            Some("explained") => "--explain",
+            Some("tree") => "--explain=tree",
+            _ => return false,
+        };
+        let script = golden.with_extension("replay");
+        let output = Command::new(program).arg(option).arg(script).output();
+        let written = output.expect("the program ends").stdout;
+        written != std::fs::read(golden).expect("the golden file is read")
+    })
+}
+
+/// Whether a full comparison with the second program finds a difference.
+fn compared_differs(program: &Path, seed: usize) -> bool {
+    let output = Command::new(built().join("compare"))
+        .arg(program)
+        .arg(built().join("second"))
+        .args(["--events", "200000", "--seed", &seed.to_string()])
+        .output();
+    output.expect("the programs are built").status.code() == Some(1)
+}
+
+#[test]
+#[ignore = "takes minutes"]
+fn every_mutant_is_caught() {
+    let folder = Folder::new().expect("a folder is made");
+    let mut missed = Vec::new();
+    for (place, mutant) in MUTANTS.iter().enumerate() {
+        let program = build(mutant, &folder.path().join("mutant"));
+        let Mutant(file, from, to) = mutant;
+        let what = format!("{file}: {from:?} -> {to:?}");
+        let (golden, compared) = (
+            changes_an_example(&program),
+            compared_differs(&program, place),
+        );
+        println!("{what}: examples {golden}, comparison {compared}");
+        if !golden && !compared {
+            missed.push(what);
+        }
+    }
+    assert!(missed.is_empty(), "{missed:#?}");
+}
