@@ -56,7 +56,7 @@ impl View {
             mode,
             by_mprv,
             sum: get(own, "SUM", register(own)) == 1,
-            guest_mxr: guest && get(VSSTATUS, "MXR", register(VSSTATUS)) == 1,
+            guest_mxr: get(VSSTATUS, "MXR", register(VSSTATUS)) == 1,
             mxr: status("MXR") == 1,
             first: match mode {
                 Mode::M => None,

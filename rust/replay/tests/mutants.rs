@@ -17,7 +17,6 @@ const MUTANTS: &[Mutant] = &[
     Mutant("walk.rs", "mode == Mode::M && kind != Kind::Fetch &&", "mode == Mode::M &&"),
     Mutant("walk.rs", "if status(\"MPP\") == 3 { 0 } else { status(\"MPV\") }", "status(\"MPV\") & 1"),
     Mutant("walk.rs", "let own = if guest { VSSTATUS } else { MSTATUS };", "let own = MSTATUS; let _ = guest;"),
-    Mutant("walk.rs", "guest_mxr: guest && get(VSSTATUS,", "guest_mxr: get(VSSTATUS,"),
     Mutant("walk.rs", "_ if guest => table(VSATP, Part::Vsatp),", "_ if guest => table(SATP, Part::Vsatp),"),
     Mutant("walk.rs", "Mode::M => None,\n                _ if guest", "_ if guest"),
     Mutant("walk.rs", "if wide { 0x7ff } else { 0x1ff }", "if wide { 0x3ff } else { 0x1ff }"),
