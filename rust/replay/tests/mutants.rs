@@ -193,7 +193,8 @@ fn compared_differs(program: &Path, seed: usize) -> bool {
         .arg(built().join("second"))
         .args(["--events", "200000", "--seed", &seed.to_string()])
         .output();
-    output.expect("the programs are built").status.code() == Some(1)
+    let text = output.expect("the programs are built").stdout;
+    String::from_utf8_lossy(&text).contains("FAILED: the programs differ")
 }
 
 #[test]
