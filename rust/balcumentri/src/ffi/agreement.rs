@@ -124,16 +124,8 @@ fn declared(file: &Path) -> Calls {
 /// The header without its comments.
 fn header() -> String {
     let text = text(path("include/balcumentri.h"));
-    let parts = text.split("/*").enumerate();
-    parts
-        .map(|(i, part)| {
-            if i == 0 {
-                part
-            } else {
-                part.split_once("*/").expect("a comment's end").1
-            }
-        })
-        .collect()
+    let after = |part| str::split_once(part, "*/").map_or(part, |(_, after)| after);
+    text.split("/*").map(after).collect()
 }
 
 /// What the header declares.
