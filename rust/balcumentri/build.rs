@@ -1,4 +1,4 @@
-//! Links the proved library, which `rt staticlib exports` writes into the repository's target/staticlib/.
+//! Links the proved library, which `rust/build library` has rt write into the repository's target/staticlib/.
 
 use std::path::Path;
 
@@ -10,7 +10,7 @@ fn main() {
         println!("cargo:rustc-link-search=native={}", folder.display());
         println!("cargo:rustc-link-lib=static=exports");
     } else {
-        eprintln!("target/staticlib/libexports.a is missing: run `rt staticlib exports` at the repository's root");
+        eprintln!("target/staticlib/libexports.a is missing: run `rust/build library` at the repository's root");
         std::process::exit(1);
     }
 }

@@ -1,7 +1,11 @@
 //! The C face, with the lengths of its slices as types. The only module with `unsafe`.
 //!
-//! Each call's slices have the lengths that the face asks for and do not overlap, so each is taken and writes its result.
+//! Each call's slices have the lengths that the face asks for and do not overlap, so each is taken and writes its result; the
+//! code that it returns is looked at all the same.
 #![allow(unsafe_code)]
+
+#[cfg(test)]
+mod agreement;
 
 use crate::translation::{Image, Read};
 
@@ -37,8 +41,11 @@ pub struct TranslationWords {
 const TRANSLATION_WORDS: usize = 7 + 4 * PLACES;
 const _: () = assert!(size_of::<TranslationWords>() == 8 * TRANSLATION_WORDS);
 
-/// A call of the face that takes a hart and writes an event's result.
-type Event = unsafe extern "C" fn(*const u64, usize, *mut u64, usize) -> u64;
+/// A call of the face that takes a hart alone.
+type Plain = unsafe extern "C" fn(*const u64, usize, *mut u64, usize) -> u64;
+
+/// What a call returns that has written its result.
+const WRITTEN: u64 = 0;
 
 extern "C" {
     fn balcumentri_reset(v: u64, privilege: u64, pc: u64, out: *mut u64, size: usize) -> u64;
@@ -111,20 +118,54 @@ extern "C" {
     fn balcumentri_number(place: u64) -> u64;
 }
 
+/// Looks at what a call returned, so that no words are taken for a result that are none.
+#[inline]
+fn expect_written(code: u64) {
+    if code != WRITTEN {
+        not_written(code);
+    }
+}
+
+#[cold]
+#[inline(never)]
+fn not_written(code: u64) -> ! {
+    panic!("the linked library is not the one declared here: a call whose slices and kind are right returned {code}")
+}
+
+/// The words that a call writes, which is lent room for so many.
+fn result<const N: usize>(call: impl FnOnce(*mut u64, usize) -> u64) -> [u64; N] {
+    let mut out = [0; N];
+    expect_written(call(out.as_mut_ptr(), out.len()));
+    out
+}
+
+/// The same of a call that is lent a hart, too.
+fn of_hart<const N: usize>(
+    hart: &HartWords,
+    call: impl FnOnce(*const u64, usize, *mut u64, usize) -> u64,
+) -> [u64; N] {
+    result(|out, size| call(hart.as_ptr(), hart.len(), out, size))
+}
+
+/// The result of a call that takes a hart alone.
+fn plain<const N: usize>(call: Plain, hart: &HartWords) -> [u64; N] {
+    // SAFETY: hart and out are lent for the call, each with its own length; out is a new local, so they do not overlap. call is one
+    // of the functions declared above, all with these four parameters.
+    of_hart(hart, |h, words, out, size| unsafe {
+        call(h, words, out, size)
+    })
+}
+
 /// A hart whose registers hold what a write of 0 leaves.
 pub fn reset(v: u64, privilege: u64, pc: u64) -> HartWords {
-    let mut out = [0; HART];
     // SAFETY: out is lent for the call, with its own length.
-    unsafe { balcumentri_reset(v, privilege, pc, out.as_mut_ptr(), out.len()) };
-    out
+    result(|out, size| unsafe { balcumentri_reset(v, privilege, pc, out, size) })
 }
 
 /// Check 2.
 pub fn passes(hart: &HartWords) -> bool {
-    let mut out = [0; 1];
-    // SAFETY: hart and out are lent for the call, each with its own length; out is a new local, so they do not overlap.
-    unsafe { balcumentri_passes(hart.as_ptr(), hart.len(), out.as_mut_ptr(), out.len()) };
-    out[0] == 1
+    let [passes] = plain(balcumentri_passes, hart);
+    passes == 1
 }
 
 /// The translation of an access, written into the words lent; kind 0 is a fetch, 1 a load, 2 a store.
@@ -140,7 +181,7 @@ pub fn translate_into(
     let words: *mut TranslationWords = out;
     // SAFETY: hart, the bytes and out are lent for the call, each with its own length; out is lent mutably, so it overlaps neither.
     // It is so many words by its layout and the assertion on its size, and any words are a value of it.
-    unsafe {
+    let code = unsafe {
         balcumentri_translate(
             hart.as_ptr(),
             hart.len(),
@@ -154,75 +195,39 @@ pub fn translate_into(
             TRANSLATION_WORDS,
         )
     };
+    expect_written(code);
 }
 
 /// Reads a register.
 pub fn read(hart: &HartWords, number: u64) -> AccessWords {
-    let mut out = [0; ACCESS];
-    // SAFETY: as in `passes`.
-    unsafe {
-        balcumentri_read(
-            hart.as_ptr(),
-            hart.len(),
-            number,
-            out.as_mut_ptr(),
-            out.len(),
-        )
-    };
-    out
+    // SAFETY: as in `plain`.
+    of_hart(hart, |h, words, out, size| unsafe {
+        balcumentri_read(h, words, number, out, size)
+    })
 }
 
 /// Writes a register.
 pub fn write(hart: &HartWords, number: u64, value: u64) -> AccessWords {
-    let mut out = [0; ACCESS];
-    // SAFETY: as in `passes`.
-    unsafe {
-        balcumentri_write(
-            hart.as_ptr(),
-            hart.len(),
-            number,
-            value,
-            out.as_mut_ptr(),
-            out.len(),
-        )
-    };
-    out
+    // SAFETY: as in `plain`.
+    of_hart(hart, |h, words, out, size| unsafe {
+        balcumentri_write(h, words, number, value, out, size)
+    })
 }
 
 /// Sets bits of a register.
 pub fn set(hart: &HartWords, number: u64, value: u64, writes: bool) -> AccessWords {
-    let mut out = [0; ACCESS];
-    // SAFETY: as in `passes`.
-    unsafe {
-        balcumentri_set(
-            hart.as_ptr(),
-            hart.len(),
-            number,
-            value,
-            writes,
-            out.as_mut_ptr(),
-            out.len(),
-        )
-    };
-    out
+    // SAFETY: as in `plain`.
+    of_hart(hart, |h, words, out, size| unsafe {
+        balcumentri_set(h, words, number, value, writes, out, size)
+    })
 }
 
 /// Clears bits of a register.
 pub fn clear(hart: &HartWords, number: u64, value: u64, writes: bool) -> AccessWords {
-    let mut out = [0; ACCESS];
-    // SAFETY: as in `passes`.
-    unsafe {
-        balcumentri_clear(
-            hart.as_ptr(),
-            hart.len(),
-            number,
-            value,
-            writes,
-            out.as_mut_ptr(),
-            out.len(),
-        )
-    };
-    out
+    // SAFETY: as in `plain`.
+    of_hart(hart, |h, words, out, size| unsafe {
+        balcumentri_clear(h, words, number, value, writes, out, size)
+    })
 }
 
 /// A trap request.
@@ -234,69 +239,50 @@ pub fn trap(
     word: u64,
     flag: bool,
 ) -> StepWords {
-    let mut out = [0; STEP];
-    // SAFETY: as in `passes`.
-    unsafe {
-        balcumentri_trap(
-            hart.as_ptr(),
-            hart.len(),
-            cause,
-            value,
-            second,
-            word,
-            flag,
-            out.as_mut_ptr(),
-            out.len(),
-        )
-    };
-    out
-}
-
-fn event(call: Event, hart: &HartWords) -> StepWords {
-    let mut out = [0; STEP];
-    // SAFETY: as in `passes`; call is one of the functions below, all with these four parameters.
-    unsafe { call(hart.as_ptr(), hart.len(), out.as_mut_ptr(), out.len()) };
-    out
+    // SAFETY: as in `plain`.
+    of_hart(hart, |h, words, out, size| unsafe {
+        balcumentri_trap(h, words, cause, value, second, word, flag, out, size)
+    })
 }
 
 /// ECALL.
 pub fn ecall(hart: &HartWords) -> StepWords {
-    event(balcumentri_ecall, hart)
+    plain(balcumentri_ecall, hart)
 }
 
 /// EBREAK.
 pub fn ebreak(hart: &HartWords) -> StepWords {
-    event(balcumentri_ebreak, hart)
+    plain(balcumentri_ebreak, hart)
 }
 
 /// MRET.
 pub fn mret(hart: &HartWords) -> StepWords {
-    event(balcumentri_mret, hart)
+    plain(balcumentri_mret, hart)
 }
 
 /// SRET.
 pub fn sret(hart: &HartWords) -> StepWords {
-    event(balcumentri_sret, hart)
+    plain(balcumentri_sret, hart)
 }
 
 /// WFI.
 pub fn wfi(hart: &HartWords) -> StepWords {
-    event(balcumentri_wfi, hart)
+    plain(balcumentri_wfi, hart)
 }
 
 /// SFENCE.VMA.
 pub fn sfence_vma(hart: &HartWords) -> StepWords {
-    event(balcumentri_sfence_vma, hart)
+    plain(balcumentri_sfence_vma, hart)
 }
 
 /// HFENCE.VVMA.
 pub fn hfence_vvma(hart: &HartWords) -> StepWords {
-    event(balcumentri_hfence_vvma, hart)
+    plain(balcumentri_hfence_vvma, hart)
 }
 
 /// HFENCE.GVMA.
 pub fn hfence_gvma(hart: &HartWords) -> StepWords {
-    event(balcumentri_hfence_gvma, hart)
+    plain(balcumentri_hfence_gvma, hart)
 }
 
 /// The place of the register that a hart keeps with a number, or [`KEPT`].

@@ -1,7 +1,8 @@
 //! A RISC-V hart with the hypervisor extension, as a proved library.
 //!
-//! The model is written and proved in Rattle; this crate gives its public calls ordinary Rust types. No call panics, whatever
-//! it is given: what the model does not take, it refuses with a number.
+//! The model is written and proved in Rattle; this crate gives its public calls ordinary Rust types. Every call answers, whatever
+//! it is given: what the model does not take, it refuses with a number. A call panics only where the library that was linked is
+//! not the one that this crate declares: then it has no answer.
 //!
 //! ```
 //! use balcumentri::{Access, Answer, Hart, Image, Kind};
