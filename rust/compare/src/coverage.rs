@@ -12,7 +12,7 @@ use second::hart::{Hart, Mode};
 use second::registers::{find, ROWS};
 use second::script::{Answer, Instruction, Line};
 use second::trap::{Ending, Target};
-use second::walk::{Kind, Part, Rule, Why};
+use second::walk::{Key, Kind, Part, Rule};
 
 /// The words of the events, in REPLAY.md's order.
 pub const WORDS: [&str; 17] = [
@@ -81,7 +81,7 @@ pub struct Coverage {
     /// Events (without `show`).
     pub events: u64,
     /// Rules that ended a walk.
-    pub rules: BTreeMap<Why, u64>,
+    pub rules: BTreeMap<Key, u64>,
     /// Traps delivered, by cause and target.
     pub delivered: BTreeMap<(u64, Target), u64>,
     /// Instructions without operands, by word and mode.
@@ -174,7 +174,7 @@ impl Coverage {
                     count(&mut self.translations, mode);
                 }
                 if let Some(why) = translation.why {
-                    count(&mut self.rules, why);
+                    count(&mut self.rules, why.key());
                 }
             }
             Answer::Register(accessed) => self.note_ending(word, &accessed.outcome.ending),
@@ -432,7 +432,7 @@ impl Coverage {
             "fault rules by part and level: {reached} of {} reached; the rarest:",
             all.len()
         );
-        let mut counts: Vec<(u64, &Why)> = self
+        let mut counts: Vec<(u64, &Key)> = self
             .rules
             .iter()
             .map(|(why, number)| (*number, why))
@@ -442,8 +442,8 @@ impl Coverage {
             let _ = writeln!(text, "  {} {number}", describe(why));
         }
         let mut by_rule: BTreeMap<Rule, u64> = BTreeMap::new();
-        for (why, number) in &self.rules {
-            *by_rule.entry(why.rule).or_insert(0) += number;
+        for ((rule, ..), number) in &self.rules {
+            *by_rule.entry(*rule).or_insert(0) += number;
         }
         text.push_str("fault rules:");
         for (rule, number) in &by_rule {
@@ -471,14 +471,10 @@ fn targets_of(cause: u64) -> Vec<Target> {
 }
 
 /// Every rule at every part and level where it can hold.
-pub fn reachable_rules() -> Vec<Why> {
+pub fn reachable_rules() -> Vec<Key> {
     let mut rules = Vec::new();
     for rule in [Rule::Misaligned, Rule::AccessOutside] {
-        rules.push(Why {
-            rule,
-            part: Part::Access,
-            level: None,
-        });
+        rules.push((rule, Part::Access, None));
     }
     for part in [
         Part::Satp,
@@ -486,18 +482,10 @@ pub fn reachable_rules() -> Vec<Why> {
         Part::HgatpForEntry,
         Part::HgatpForAccess,
     ] {
-        rules.push(Why {
-            rule: Rule::HighBits,
-            part,
-            level: None,
-        });
+        rules.push((Rule::HighBits, part, None));
         for level in 0..3 {
             for rule in entry_rules(part, level) {
-                rules.push(Why {
-                    rule,
-                    part,
-                    level: Some(level),
-                });
+                rules.push((rule, part, Some(level)));
             }
         }
     }
@@ -533,10 +521,10 @@ fn entry_rules(part: Part, level: u64) -> Vec<Rule> {
 }
 
 /// A rule and its place, for people.
-pub fn describe(why: &Why) -> String {
-    match why.level {
-        Some(level) => format!("{:?} at level {level} of {:?}", why.rule, why.part),
-        None => format!("{:?} of {:?}", why.rule, why.part),
+pub fn describe((rule, part, level): &Key) -> String {
+    match level {
+        Some(level) => format!("{rule:?} at level {level} of {part:?}"),
+        None => format!("{rule:?} of {part:?}"),
     }
 }
 

@@ -7,7 +7,7 @@ use std::process::{Command, ExitStatus, Stdio};
 use std::sync::mpsc;
 use std::time::Duration;
 
-use second::script::{parse, write_answer, Answer, Bad, Line, Session};
+use second::script::{parse, Answer, Bad, Line, Session, Writing};
 
 /// A script and how it is given to a program.
 #[derive(Clone, Debug, PartialEq, Eq)]
@@ -246,7 +246,7 @@ impl Program for InProcess<'_> {
                 Err(bad) => Err(bad),
             };
             match answer {
-                Ok(answer) => write_answer(&mut output, &answer)?,
+                Ok(answer) => Writing::Answers.write(&mut output, &answer)?,
                 Err(_) => {
                     writeln!(output, "error {:x}", place + 1)?;
                     return Ok(Outcome {

@@ -208,7 +208,7 @@ fn a_copy_with_another_order_of_refusals() {
     fn image_first(session: &mut Session, line: &Line) -> Result<Answer, Bad> {
         let answer = session.perform(line)?;
         if let Answer::Translation(mut translation) = answer.clone() {
-            if translation.answer == walk::Answer::Refused(2) && session.image.is_refused() {
+            if translation.answer == walk::Answer::Refused(2) && session.image.refusal().is_some() {
                 translation.answer = walk::Answer::Refused(1);
                 return Ok(Answer::Translation(translation));
             }

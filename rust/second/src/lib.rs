@@ -16,6 +16,7 @@
 //! | [`waits`] | WFI and the fences |
 //! | [`image`] | the image and refusal 1 |
 //! | [`walk`] | "The walk": translation of a fetch, load or store, refusal 3 |
+//! | [`reasons`] | what each rule that refused, trapped or faulted is called in words |
 //! | [`script`] | the replay script language |
 //!
 //! Every event is a function from a hart (and what else it is given) to a hart and an answer; nothing is kept between events.
@@ -31,6 +32,7 @@ pub mod bits;
 pub mod calls;
 pub mod hart;
 pub mod image;
+pub mod reasons;
 pub mod registers;
 pub mod returns;
 pub mod script;

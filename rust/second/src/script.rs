@@ -1,6 +1,6 @@
 //! The replay script language: reading a line, performing it, writing its answer.
 //!
-//! The three steps are separate functions ([`parse`], [`Session::perform`], [`write_answer`]) and [`run`] puts them together.
+//! The three steps are separate functions ([`parse`], [`Session::perform`], [`Writing::write`]) and [`run`] puts them together.
 //! Lines are bytes, not characters: what is not UTF-8 is an ordinary byte.
 
 use std::fs::File;
@@ -12,6 +12,7 @@ use crate::address::Machine;
 use crate::calls::{ebreak, ecall};
 use crate::hart::Hart;
 use crate::image::Image;
+use crate::reasons::Reason;
 use crate::registers::ROWS;
 use crate::returns::{mret, sret};
 use crate::trap::{request, Ending, Outcome, Trap};
@@ -112,6 +113,21 @@ pub enum Answer {
     Event(Outcome),
     /// `show`
     Hart(Hart),
+}
+
+impl Answer {
+    /// Why it is a refusal, a fault, or a trap by a rule.
+    pub fn reason(&self) -> Option<Reason> {
+        match self {
+            Answer::Nothing | Answer::Hart(_) => None,
+            Answer::Translation(translation) => {
+                let refused = translation.refusal.map(Reason::Refused);
+                refused.or(translation.why.map(Reason::Fault))
+            }
+            Answer::Register(accessed) => accessed.outcome.reason,
+            Answer::Event(outcome) => outcome.reason,
+        }
+    }
 }
 
 /// Why a line is bad: a sentence.
@@ -469,7 +485,7 @@ fn path_of(bytes: &[u8]) -> PathBuf {
 // Writing an answer.
 
 /// Writes the answer of a line.
-pub fn write_answer<W: Write>(output: &mut W, answer: &Answer) -> io::Result<()> {
+fn write_answer<W: Write>(output: &mut W, answer: &Answer) -> io::Result<()> {
     match answer {
         Answer::Nothing => Ok(()),
         Answer::Translation(translation) => write_translation(output, translation),
@@ -482,6 +498,14 @@ pub fn write_answer<W: Write>(output: &mut W, answer: &Answer) -> io::Result<()>
             Ending::Trapped(..) | Ending::Done => writeln!(output, "ok"),
         },
         Answer::Hart(hart) => write_hart(output, hart),
+    }
+}
+
+/// Writes the reason of an answer that has one.
+fn write_reason<W: Write>(output: &mut W, answer: &Answer) -> io::Result<()> {
+    match answer.reason() {
+        Some(reason) => writeln!(output, "# why: {reason}"),
+        None => Ok(()),
     }
 }
 
@@ -550,9 +574,30 @@ pub enum Trouble {
     Output(io::Error),
 }
 
+/// What a run writes.
+#[derive(Clone, Copy, PartialEq, Eq, Debug)]
+pub enum Writing {
+    /// The answers.
+    Answers,
+    /// The answers, each with its reason where it has one.
+    Reasons,
+}
+
+impl Writing {
+    /// Writes what there is to write about one answer.
+    pub fn write<W: Write>(self, output: &mut W, answer: &Answer) -> io::Result<()> {
+        write_answer(output, answer)?;
+        match self {
+            Writing::Answers => Ok(()),
+            Writing::Reasons => write_reason(output, answer),
+        }
+    }
+}
+
 /// Runs a script: reads it from `input` and writes its answers to `output`.
 pub fn run<R: BufRead, W: Write>(
     session: &mut Session,
+    writing: Writing,
     input: &mut R,
     output: &mut W,
 ) -> Result<End, Trouble> {
@@ -570,7 +615,7 @@ pub fn run<R: BufRead, W: Write>(
         number = number.wrapping_add(1);
         let line = buffer.strip_suffix(b"\n").unwrap_or(&buffer);
         match run_line(session, line) {
-            Ok(answer) => write_answer(output, &answer).map_err(Trouble::Output)?,
+            Ok(answer) => writing.write(output, &answer).map_err(Trouble::Output)?,
             Err(Bad(reason)) => {
                 writeln!(output, "error {number:x}").map_err(Trouble::Output)?;
                 output.flush().map_err(Trouble::Output)?;

@@ -59,6 +59,23 @@ fn an_empty_script() {
 }
 
 #[test]
+fn reasons_are_written_where_they_are_asked_for() {
+    let folder = Folder::new("reasons");
+    let script = folder.0.join("script");
+    std::fs::write(&script, "read 1000\nload 0 8\nwfi\n").unwrap();
+    let output = second().arg(&script).output().unwrap();
+    assert_eq!(output.stdout, b"refused 5\nfault 5 0 0 0 0\nok\n");
+    let reasons: &[u8] = b"refused 5\n# why: register number 1000 is over fff\nfault 5 0 0 0 0\n\
+        # why: the access: 0 is outside the image: page 0 is missing\nok\n";
+    let output = second().arg("--why").arg(&script).output().unwrap();
+    assert_eq!(output.stdout, reasons);
+    assert_eq!(output.status.code(), Some(0));
+    let input = std::fs::File::open(&script).unwrap();
+    let output = second().arg("--why").stdin(input).output().unwrap();
+    assert_eq!(output.stdout, reasons);
+}
+
+#[test]
 fn a_bad_script_ends_with_a_sentence() {
     let output = through_input(b"wfi\nnonsense\nwfi\n");
     assert_eq!(output.stdout, b"ok\nerror 2\n");
@@ -134,7 +151,14 @@ fn a_script_that_cannot_be_read() {
 
 #[test]
 fn a_wrong_command_line() {
-    for arguments in [&["a", "b"][..], &["--explain"], &["-"]] {
+    for arguments in [
+        &["a", "b"][..],
+        &["--explain"],
+        &["-"],
+        &["--why", "a", "b"],
+        &["--why", "--why"],
+        &["a", "--why"],
+    ] {
         let output = second().args(arguments).output().unwrap();
         assert_eq!(output.status.code(), Some(2));
         assert!(String::from_utf8_lossy(&output.stderr).contains("usage"));
