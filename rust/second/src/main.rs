@@ -5,7 +5,7 @@
 
 use std::ffi::OsString;
 use std::fs::File;
-use std::io::{self, BufRead, BufReader, BufWriter, Write};
+use std::io::{self, BufWriter, Read, Write};
 use std::path::{Path, PathBuf};
 use std::process::ExitCode;
 
@@ -25,10 +25,7 @@ fn main() -> ExitCode {
 /// Runs the script that the arguments behind the option name.
 fn run_arguments(writing: Writing, arguments: &[OsString]) -> ExitCode {
     match arguments {
-        [] => {
-            let mut input = BufReader::with_capacity(BUFFER, io::stdin().lock());
-            finish(writing, &mut input, PathBuf::new())
-        }
+        [] => finish(writing, io::stdin().lock(), PathBuf::new()),
         [option] if option.to_string_lossy().starts_with('-') => {
             complain(&format!("{option:?} is no file; {USAGE}"));
             ExitCode::from(2)
@@ -51,12 +48,11 @@ fn run_file(writing: Writing, path: &Path) -> ExitCode {
         }
     };
     let folder = path.parent().unwrap_or(Path::new("")).to_path_buf();
-    let mut input = BufReader::with_capacity(BUFFER, file);
-    finish(writing, &mut input, folder)
+    finish(writing, file, folder)
 }
 
 /// Runs the script and says how it ended.
-fn finish<R: BufRead>(writing: Writing, input: &mut R, folder: PathBuf) -> ExitCode {
+fn finish<R: Read>(writing: Writing, input: R, folder: PathBuf) -> ExitCode {
     let mut output = BufWriter::with_capacity(BUFFER, io::stdout().lock());
     let end = run(&mut Session::new(folder), writing, input, &mut output);
     match end {

@@ -9,7 +9,7 @@ fn why(script: &str) -> String {
     let mut session = Session::new(PathBuf::new());
     let mut last = Answer::Nothing;
     for line in script.split(';') {
-        last = run_line(&mut session, line.as_bytes())
+        last = run_line(Session::perform, &mut session, line.as_bytes())
             .unwrap_or_else(|bad| panic!("{line:?} of {script:?}: {}", bad.0));
     }
     last.reason()
@@ -400,7 +400,7 @@ fn a_reason_stands_behind_its_answer_and_its_reads() {
     let written = |writing| {
         let mut output = Vec::new();
         let mut session = Session::new(PathBuf::new());
-        run(&mut session, writing, &mut &script[..], &mut output).unwrap();
+        run(&mut session, writing, &script[..], &mut output).unwrap();
         String::from_utf8(output).unwrap()
     };
     assert_eq!(

@@ -4,7 +4,7 @@
 //! Lines are bytes, not characters: what is not UTF-8 is an ordinary byte.
 
 use std::fs::File;
-use std::io::{self, BufRead, Read, Write};
+use std::io::{self, Read, Write};
 use std::path::PathBuf;
 
 use crate::access::{access, Accessed, Action};
@@ -12,6 +12,7 @@ use crate::address::Machine;
 use crate::calls::{ebreak, ecall};
 use crate::hart::Hart;
 use crate::image::Image;
+use crate::lines::Lines;
 use crate::reasons::Reason;
 use crate::registers::ROWS;
 use crate::returns::{mret, sret};
@@ -595,26 +596,36 @@ impl Writing {
 }
 
 /// Runs a script: reads it from `input` and writes its answers to `output`.
-pub fn run<R: BufRead, W: Write>(
+pub fn run<R: Read, W: Write>(
     session: &mut Session,
     writing: Writing,
-    input: &mut R,
+    input: R,
     output: &mut W,
 ) -> Result<End, Trouble> {
+    run_by(Session::perform, session, writing, input, output)
+}
+
+/// What is done with a line: [`Session::perform`], or an altered copy of it.
+pub type Perform = fn(&mut Session, &Line) -> Result<Answer, Bad>;
+
+/// Runs a script with `perform` for its lines. An answer does not wait for the next line: before the input is asked for more,
+/// what has been answered is written out.
+pub fn run_by<R: Read, W: Write>(
+    perform: Perform,
+    session: &mut Session,
+    writing: Writing,
+    input: R,
+    output: &mut W,
+) -> Result<End, Trouble> {
+    let mut lines = Lines::new(input);
     let mut number = 0u64;
-    let mut buffer = Vec::new();
     loop {
-        buffer.clear();
-        let length = input
-            .read_until(b'\n', &mut buffer)
-            .map_err(Trouble::Input)?;
-        if length == 0 {
+        let Some(line) = lines.next(|| output.flush())? else {
             output.flush().map_err(Trouble::Output)?;
             return Ok(End::Whole);
-        }
+        };
         number = number.wrapping_add(1);
-        let line = buffer.strip_suffix(b"\n").unwrap_or(&buffer);
-        match run_line(session, line) {
+        match line.and_then(|line| run_line(perform, session, line)) {
             Ok(answer) => writing.write(output, &answer).map_err(Trouble::Output)?,
             Err(Bad(reason)) => {
                 writeln!(output, "error {number:x}").map_err(Trouble::Output)?;
@@ -629,9 +640,9 @@ pub fn run<R: BufRead, W: Write>(
 }
 
 /// Reads and performs one line.
-pub fn run_line(session: &mut Session, line: &[u8]) -> Result<Answer, Bad> {
+pub fn run_line(perform: Perform, session: &mut Session, line: &[u8]) -> Result<Answer, Bad> {
     match parse(line)? {
-        Some(line) => session.perform(&line),
+        Some(line) => perform(session, &line),
         None => Ok(Answer::Nothing),
     }
 }
