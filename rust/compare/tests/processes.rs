@@ -119,6 +119,7 @@ fn scripts_come_from_a_file_or_from_standard_input() {
                 lines: vec![b"one".to_vec(), b"\xff two".to_vec()],
                 last_newline,
                 through_input,
+                explained: false,
             };
             let outcome = cat.run(&script).unwrap();
             let expected: &[u8] = if last_newline {
