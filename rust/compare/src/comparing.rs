@@ -96,7 +96,7 @@ fn compare_and_count(
     (script, reached): (Script, Coverage),
     coverage: &mut Coverage,
 ) -> Result<(), Failure> {
-    let output = compare_on(first, second, place, &script)?;
+    let output = compare_on(first, second, place, script)?;
     coverage.add(&reached);
     coverage.read_output(&output);
     Ok(())
@@ -125,7 +125,7 @@ pub fn fuzz(
     let mut ended = Fuzzed::default();
     for place in 0..scripts {
         let script = fuzzed(seed, place, corpus, folder);
-        let output = compare_on(first, second, place, &script)?;
+        let output = compare_on(first, second, place, script)?;
         ended.bytes += output.len() as u64;
         if ends_with_error(&output) {
             ended.bad += 1;
@@ -154,14 +154,10 @@ fn compare_on(
     first: &dyn Program,
     second: &dyn Program,
     place: u64,
-    script: &Script,
+    mut script: Script,
 ) -> Result<Vec<u8>, Failure> {
-    let explained = script.explained && first.explains() && second.explains();
-    let script = &Script {
-        explained,
-        ..script.clone()
-    };
-    let (one, other) = both(first, second, script)?;
+    script.explained &= first.explains() && second.explains();
+    let (one, other) = both(first, second, &script)?;
     if good(&one, &other) {
         return Ok(one.output);
     }
@@ -180,7 +176,7 @@ fn compare_on(
     let (mut one, mut other) = both(first, second, &smallest)?;
     if good(&one, &other) {
         // It does not show twice: the whole script is all there is.
-        smallest = script.clone();
+        smallest = script;
         (one, other) = both(first, second, &smallest)?;
     }
     Err(Failure::Different(Box::new(Difference {

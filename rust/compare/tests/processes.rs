@@ -21,7 +21,7 @@ fn said(output: &Output) -> String {
 #[test]
 fn two_programs_that_agree() {
     // They print the script itself: nothing is reached by the outputs, but that is asked of full runs only.
-    let output = compare(&["cat", "cat", "--events", "3000", "--seed", "5"]);
+    let output = compare(&["cat", "cat", "--events", "3000", "--seed", "5", "--answers"]);
     let text = said(&output);
     assert_eq!(output.status.code(), Some(0), "{text}");
     assert!(text.starts_with("seed 5, events 3000\n"), "{text}");
@@ -66,6 +66,7 @@ fn a_wrong_command_line() {
         &["true", "true", "--events", "x"],
         &["true", "true", "--seed", "-1"],
         &["true", "true", "--other"],
+        &["true", "true", "--options", "--why"],
         &["true", "true", "--fuzz"],
         &["true", "true", "--fuzz", "1", "--corpus"],
         &["true", "true", "--fuzz", "1", "--corpus", "no/such/folder"],
