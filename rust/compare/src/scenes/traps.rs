@@ -92,9 +92,9 @@ pub fn choose_cause(scribe: &mut Scribe) -> u64 {
 pub fn choose_trap(scribe: &mut Scribe, mode: Mode, cause: u64) -> Trap {
     let mut trap = fitting_trap(scribe, mode, cause);
     let number = scribe.rng.number();
-    match scribe.rng.below(10) {
-        thing @ 0..THINGS => spoil(&mut trap, thing, number),
-        _ => {}
+    let thing = scribe.rng.below(10);
+    if thing < THINGS {
+        spoil(&mut trap, thing, number);
     }
     trap
 }
