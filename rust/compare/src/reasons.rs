@@ -298,8 +298,8 @@ mod tests {
             ("hgatp", 1 + 4),
             ("mtvec", 1),
             ("sepc", 2),
-            ("hedeleg", 64 - 10),
-            ("medeleg", 64 - 14),
+            ("hedeleg", 64 - 12),
+            ("medeleg", 64 - 18),
             ("sscratch", 0),
             ("sstatus", 0),
         ] {
