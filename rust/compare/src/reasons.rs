@@ -279,6 +279,7 @@ mod tests {
 
     #[test]
     fn each_kind_is_there_once_and_finds_itself() {
+        assert_eq!(KINDS.count(), 638);
         for kind in 0..KINDS.count() {
             let text = KINDS.text(kind).replace(STAR, "0");
             assert_eq!(KINDS.find(&text), Some(kind), "{text}");
