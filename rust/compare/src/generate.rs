@@ -31,11 +31,11 @@ pub fn script(seed: u64, place: u64, events: u64, folder: &Path) -> (Script, Cov
     finished(scribe)
 }
 
-/// A script in which every single bit of a hart in this mode is flipped, behind an image that is too large. It always asks for
+/// A script in which every single bit of a hart in this mode is flipped, behind images around the largest. It always asks for
 /// reasons: some have no other scene, or only rare ones.
 pub fn flips_script(seed: u64, mode: Mode, folder: &Path) -> (Script, Coverage) {
     let mut scribe = Scribe::new(script_seed(seed, !(mode as u64)), folder.to_path_buf());
-    edges::too_large_image(&mut scribe);
+    edges::around_the_largest(&mut scribe);
     flips::flips(&mut scribe, mode);
     let (script, coverage) = finished(scribe);
     let explained = true;

@@ -707,26 +707,31 @@ fn reasons_in_another_place() {
     differs_in_reasons(&difference);
 }
 
+/// Puts lines behind each line of an output that has reasons.
+fn with_more(outcome: Outcome, more: fn(Vec<u8>) -> Vec<Vec<u8>>) -> Outcome {
+    let mut lines = outcome.output.split(|byte| *byte == b'\n');
+    if !lines.any(is_reason) {
+        return outcome;
+    }
+    let lines = outcome.output.split_inclusive(|byte| *byte == b'\n');
+    Outcome {
+        output: lines.map(<[u8]>::to_vec).flat_map(more).flatten().collect(),
+        status: outcome.status,
+    }
+}
+
 #[test]
 fn other_explanations_do_not_count_where_reasons_are_asked_for() {
     fn explained(outcome: Outcome) -> Outcome {
-        with_lines(outcome, |lines| {
-            if !lines.iter().any(|line| is_reason(line)) {
-                return lines;
-            }
-            let more = |line| [line, b"# and\n".to_vec(), b"# why not\n".to_vec()];
-            lines.into_iter().flat_map(more).collect()
-        })
+        with_more(outcome, |line| vec![line, b"# and\n# why not\n".to_vec()])
     }
     assert_eq!(found_in_changed(explained), None);
-    // Without `# ` it is no explanation, and where no reasons are asked for there are none.
-    fn other_line(outcome: Outcome) -> Outcome {
-        with_lines(outcome, |mut lines| {
-            lines.push(b"#\n".to_vec());
-            lines
-        })
+    // Without `# ` it is no explanation.
+    fn without_blank(outcome: Outcome) -> Outcome {
+        with_more(outcome, |line| vec![line, b"#\n".to_vec()])
     }
-    changed(other_line);
+    assert!(changed(without_blank).script.explained);
+    // And where no reasons are asked for there are none.
     fn always(outcome: Outcome) -> Outcome {
         with_lines(outcome, |mut lines| {
             lines.insert(0, b"# hart\n".to_vec());

@@ -83,10 +83,11 @@ pub fn large_images(scribe: &mut Scribe) {
     large_image(scribe, length);
 }
 
-/// An image that is too large.
-pub fn too_large_image(scribe: &mut Scribe) {
-    let length = scribe.rng.pick(&[0x400_1000, 0x400_0008]);
-    large_image(scribe, length);
+/// The largest image that is taken, and two that are too large.
+pub fn around_the_largest(scribe: &mut Scribe) {
+    for length in [0x400_0000, 0x400_1000, 0x400_0008] {
+        large_image(scribe, length);
+    }
 }
 
 /// An image of this length, and accesses at its end.
