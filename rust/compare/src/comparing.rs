@@ -9,8 +9,10 @@ use second::hart::Mode;
 
 use crate::coverage::Coverage;
 use crate::fuzz::{fuzzed, Corpus};
-use crate::generate::{bad_script, flips_script, script};
+use crate::generate::{bad_script, flips_script, long_script, script};
 use crate::program::{Outcome, Program, Script, Status};
+use crate::reasons::REASON;
+use crate::scenes::long;
 use crate::shrink::shrink;
 
 /// A run of this many events must reach everything that can be reached.
@@ -53,8 +55,8 @@ pub enum Failure {
     NotRun(String, io::Error),
 }
 
-/// Runs both programs over the scripts of a seed: at least so many events, and then those that flip every bit of a hart.
-/// Ends at the first difference.
+/// Runs both programs over the scripts of a seed: at least so many events, and then those that flip every bit of a hart and
+/// those with the longest lines. Ends at the first difference.
 pub fn compare(
     first: &dyn Program,
     second: &dyn Program,
@@ -78,6 +80,11 @@ pub fn compare(
         compare_and_count(first, second, place, made, &mut coverage)?;
         place += 1;
     }
+    for kind in 0..long::COUNT {
+        let made = long_script(options.seed, kind, folder);
+        compare_and_count(first, second, place, made, &mut coverage)?;
+        place += 1;
+    }
     Ok(coverage)
 }
 
@@ -89,7 +96,7 @@ fn compare_and_count(
     (script, reached): (Script, Coverage),
     coverage: &mut Coverage,
 ) -> Result<(), Failure> {
-    let output = compare_on(first, second, place, &script)?;
+    let output = compare_on(first, second, place, script)?;
     coverage.add(&reached);
     coverage.read_output(&output);
     Ok(())
@@ -118,7 +125,7 @@ pub fn fuzz(
     let mut ended = Fuzzed::default();
     for place in 0..scripts {
         let script = fuzzed(seed, place, corpus, folder);
-        let output = compare_on(first, second, place, &script)?;
+        let output = compare_on(first, second, place, script)?;
         ended.bytes += output.len() as u64;
         if ends_with_error(&output) {
             ended.bad += 1;
@@ -147,9 +154,10 @@ fn compare_on(
     first: &dyn Program,
     second: &dyn Program,
     place: u64,
-    script: &Script,
+    mut script: Script,
 ) -> Result<Vec<u8>, Failure> {
-    let (one, other) = both(first, second, script)?;
+    script.explained &= first.explains() && second.explains();
+    let (one, other) = both(first, second, &script)?;
     if good(&one, &other) {
         return Ok(one.output);
     }
@@ -168,7 +176,7 @@ fn compare_on(
     let (mut one, mut other) = both(first, second, &smallest)?;
     if good(&one, &other) {
         // It does not show twice: the whole script is all there is.
-        smallest = script.clone();
+        smallest = script;
         (one, other) = both(first, second, &smallest)?;
     }
     Err(Failure::Different(Box::new(Difference {
@@ -184,12 +192,22 @@ fn both(
     second: &dyn Program,
     script: &Script,
 ) -> Result<(Outcome, Outcome), Failure> {
-    let run = |program: &dyn Program| {
-        program
-            .run(script)
-            .map_err(|error| Failure::NotRun(program.name(), error))
+    let run = |program: &dyn Program| match program.run(script) {
+        Ok(outcome) if script.explained => Ok(with_reasons_alone(outcome)),
+        Ok(outcome) => Ok(outcome),
+        Err(error) => Err(Failure::NotRun(program.name(), error)),
     };
     Ok((run(first)?, run(second)?))
+}
+
+/// What a program gave with its reasons, without other explanations: of the lines that begin with `# ` those with `# why: `.
+fn with_reasons_alone(outcome: Outcome) -> Outcome {
+    let lines = outcome.output.split_inclusive(|byte| *byte == b'\n');
+    let kept = lines.filter(|line| !line.starts_with(b"# ") || line.starts_with(REASON));
+    Outcome {
+        output: kept.flatten().copied().collect(),
+        status: outcome.status,
+    }
 }
 
 impl fmt::Display for Status {
@@ -209,6 +227,11 @@ impl fmt::Display for Difference {
         } else {
             "a file"
         };
+        let asked = if self.script.explained {
+            ", with reasons"
+        } else {
+            ""
+        };
         let what = if self.first == self.second {
             "both programs end wrongly"
         } else {
@@ -216,7 +239,7 @@ impl fmt::Display for Difference {
         };
         writeln!(
             formatter,
-            "{what} in script {}; the smallest script that shows it (from {way}):",
+            "{what} in script {}; the smallest script that shows it (from {way}{asked}):",
             self.place
         )?;
         for line in &self.script.lines {
@@ -251,10 +274,19 @@ impl Difference {
     }
 }
 
-/// A line for people: text as it is, other bytes escaped.
+/// How many bytes of a line are printed.
+const PRINTED: usize = 1000;
+
+/// A line for people: text as it is, other bytes escaped, and a long one cut.
 fn printable(line: &[u8]) -> String {
-    match std::str::from_utf8(line) {
+    let (shown, rest) = line.split_at(line.len().min(PRINTED));
+    let text = match std::str::from_utf8(shown) {
         Ok(text) if !text.chars().any(char::is_control) => text.to_string(),
-        _ => line.escape_ascii().to_string(),
+        _ => shown.escape_ascii().to_string(),
+    };
+    if rest.is_empty() {
+        text
+    } else {
+        format!("{text} .. and {} bytes more", rest.len())
     }
 }

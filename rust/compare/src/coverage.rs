@@ -1,7 +1,7 @@
 //! What the scripts and their answers reached.
 //!
 //! Two sources: the outputs of the programs under comparison (causes of faults, refusals, list lengths, stages and levels of
-//! reads, bad lines), and the second program's library while a script is written (the rule that ended a walk, the traps that
+//! reads, reasons, bad lines), and the second program's library while a script is written (the rule that ended a walk, the traps that
 //! were delivered and where to, which are not in any answer).
 
 use std::collections::BTreeMap;
@@ -9,10 +9,12 @@ use std::fmt::Write as _;
 
 use second::access::Action;
 use second::hart::{Hart, Mode};
-use second::registers::{find, ROWS};
+use second::registers::{find, Row, ROWS};
 use second::script::{Answer, Instruction, Line};
 use second::trap::{Ending, Target};
-use second::walk::{Kind, Part, Rule, Why};
+use second::walk::{Key, Kind, Part, Rule};
+
+use crate::reasons::{KINDS, REASON};
 
 /// The words of the events, in REPLAY.md's order.
 pub const WORDS: [&str; 17] = [
@@ -81,7 +83,7 @@ pub struct Coverage {
     /// Events (without `show`).
     pub events: u64,
     /// Rules that ended a walk.
-    pub rules: BTreeMap<Why, u64>,
+    pub rules: BTreeMap<Key, u64>,
     /// Traps delivered, by cause and target.
     pub delivered: BTreeMap<(u64, Target), u64>,
     /// Instructions without operands, by word and mode.
@@ -104,6 +106,10 @@ pub struct Coverage {
     pub lengths: BTreeMap<u64, u64>,
     /// From the outputs: `read STAGE LEVEL`.
     pub reads: BTreeMap<(u64, u64), u64>,
+    /// From the outputs: `# why: `, by the kind of the reason.
+    pub reasons: BTreeMap<usize, u64>,
+    /// From the outputs: a `# why: ` line that gives no reason.
+    pub no_reason: Option<String>,
     /// From the outputs: `error`.
     pub bad_lines: u64,
     /// Scripts compared.
@@ -174,7 +180,7 @@ impl Coverage {
                     count(&mut self.translations, mode);
                 }
                 if let Some(why) = translation.why {
-                    count(&mut self.rules, why);
+                    count(&mut self.rules, why.key());
                 }
             }
             Answer::Register(accessed) => self.note_ending(word, &accessed.outcome.ending),
@@ -223,6 +229,10 @@ impl Coverage {
         self.bytes += output.len() as u64;
         let mut open_list: Option<u64> = None;
         for line in output.split(|byte| *byte == b'\n') {
+            if let Some(reason) = line.strip_prefix(REASON) {
+                self.note_reason(&String::from_utf8_lossy(reason));
+                continue;
+            }
             let mut words = line.split(|byte| *byte == b' ');
             let word = words.next().unwrap_or(b"");
             let mut number = || {
@@ -255,6 +265,14 @@ impl Coverage {
         }
     }
 
+    /// Counts a reason.
+    fn note_reason(&mut self, text: &str) {
+        match KINDS.find(text) {
+            Some(kind) => count(&mut self.reasons, kind),
+            None => self.no_reason = Some(text.to_string()),
+        }
+    }
+
     /// Adds another's counts.
     pub fn add(&mut self, other: &Coverage) {
         add(&mut self.words, &other.words);
@@ -271,12 +289,23 @@ impl Coverage {
         self.addresses += other.addresses;
         add(&mut self.lengths, &other.lengths);
         add(&mut self.reads, &other.reads);
+        add(&mut self.reasons, &other.reasons);
+        self.no_reason = self.no_reason.take().or(other.no_reason.clone());
         self.bad_lines += other.bad_lines;
         self.scripts += other.scripts;
         self.bytes += other.bytes;
     }
 
-    /// What must be reached and was not.
+    /// What must be given as a reason and was not, and what was given and is none.
+    pub fn missing_reasons(&self) -> Vec<String> {
+        let missing = (0..KINDS.count()).filter(|kind| !self.reasons.contains_key(kind));
+        let missing = missing.map(|kind| format!("the reason \"{}\"", KINDS.text(kind)));
+        let wrong = self.no_reason.iter();
+        let wrong = wrong.map(|text| format!("a reason instead of \"{text}\""));
+        missing.chain(wrong).collect()
+    }
+
+    /// What must be reached and was not, but for reasons.
     pub fn missing(&self) -> Vec<String> {
         let mut missing = Vec::new();
         for word in WORDS {
@@ -360,6 +389,7 @@ impl Coverage {
         self.table_of_events(&mut text);
         self.table_of_answers(&mut text);
         self.table_of_rules(&mut text);
+        self.table_of_reasons(&mut text);
         text
     }
 
@@ -432,7 +462,7 @@ impl Coverage {
             "fault rules by part and level: {reached} of {} reached; the rarest:",
             all.len()
         );
-        let mut counts: Vec<(u64, &Why)> = self
+        let mut counts: Vec<(u64, &Key)> = self
             .rules
             .iter()
             .map(|(why, number)| (*number, why))
@@ -442,8 +472,8 @@ impl Coverage {
             let _ = writeln!(text, "  {} {number}", describe(why));
         }
         let mut by_rule: BTreeMap<Rule, u64> = BTreeMap::new();
-        for (why, number) in &self.rules {
-            *by_rule.entry(why.rule).or_insert(0) += number;
+        for ((rule, ..), number) in &self.rules {
+            *by_rule.entry(*rule).or_insert(0) += number;
         }
         text.push_str("fault rules:");
         for (rule, number) in &by_rule {
@@ -451,6 +481,30 @@ impl Coverage {
         }
         text.push('\n');
     }
+
+    fn table_of_reasons(&self, text: &mut String) {
+        let _ = writeln!(
+            text,
+            "reasons {}; kinds of reasons: {} of {} given; the rarest:",
+            self.reasons.values().sum::<u64>(),
+            self.reasons.len(),
+            KINDS.count()
+        );
+        let mut counts: Vec<(u64, usize)> = self
+            .reasons
+            .iter()
+            .map(|(kind, number)| (*number, *kind))
+            .collect();
+        counts.sort();
+        for (number, kind) in counts.iter().take(8) {
+            let _ = writeln!(text, "  {} {number}", KINDS.text(*kind));
+        }
+    }
+}
+
+/// Whether a register is stored.
+pub fn is_stored(row: &Row) -> bool {
+    Hart::new(0, 3, 0).stored(row.number).is_some()
 }
 
 /// How many bits a hart has.
@@ -471,14 +525,10 @@ fn targets_of(cause: u64) -> Vec<Target> {
 }
 
 /// Every rule at every part and level where it can hold.
-pub fn reachable_rules() -> Vec<Why> {
+pub fn reachable_rules() -> Vec<Key> {
     let mut rules = Vec::new();
     for rule in [Rule::Misaligned, Rule::AccessOutside] {
-        rules.push(Why {
-            rule,
-            part: Part::Access,
-            level: None,
-        });
+        rules.push((rule, Part::Access, None));
     }
     for part in [
         Part::Satp,
@@ -486,18 +536,10 @@ pub fn reachable_rules() -> Vec<Why> {
         Part::HgatpForEntry,
         Part::HgatpForAccess,
     ] {
-        rules.push(Why {
-            rule: Rule::HighBits,
-            part,
-            level: None,
-        });
+        rules.push((Rule::HighBits, part, None));
         for level in 0..3 {
             for rule in entry_rules(part, level) {
-                rules.push(Why {
-                    rule,
-                    part,
-                    level: Some(level),
-                });
+                rules.push((rule, part, Some(level)));
             }
         }
     }
@@ -533,10 +575,10 @@ fn entry_rules(part: Part, level: u64) -> Vec<Rule> {
 }
 
 /// A rule and its place, for people.
-pub fn describe(why: &Why) -> String {
-    match why.level {
-        Some(level) => format!("{:?} at level {level} of {:?}", why.rule, why.part),
-        None => format!("{:?} of {:?}", why.rule, why.part),
+pub fn describe((rule, part, level): &Key) -> String {
+    match level {
+        Some(level) => format!("{rule:?} at level {level} of {part:?}"),
+        None => format!("{rule:?} of {part:?}"),
     }
 }
 
@@ -556,6 +598,35 @@ mod tests {
         assert_eq!(coverage.faults, BTreeMap::from([(21, 1)]));
         assert_eq!(coverage.refusals, BTreeMap::from([(5, 1)]));
         assert_eq!(coverage.bad_lines, 1);
+    }
+
+    #[test]
+    fn reasons_are_counted() {
+        let mut coverage = Coverage::default();
+        coverage.read_output(b"refused 5\n# why: register number 1000 is over fff\n");
+        coverage.read_output(b"ok\n# why: mstatus.TW is 1\nok\n# why: mstatus.TW is 1\n# other\n");
+        let counts: Vec<u64> = coverage.reasons.values().copied().collect();
+        assert_eq!(counts, [1, 2]);
+        assert_eq!(coverage.no_reason, None);
+        let missing = coverage.missing_reasons();
+        assert_eq!(missing.len(), KINDS.count() - 2);
+        let of_tsr = "the reason \"mstatus.TSR is 1\"".to_string();
+        assert!(missing.contains(&of_tsr));
+        coverage.read_output(b"ok\n# why: mstatus.TW is on\n");
+        let missing = coverage.missing_reasons();
+        assert_eq!(
+            missing.last().unwrap(),
+            "a reason instead of \"mstatus.TW is on\""
+        );
+    }
+
+    #[test]
+    fn a_list_before_a_reason_is_counted() {
+        let mut coverage = Coverage::default();
+        coverage.read_output(
+            b"fault d 0 0 0 0\nread 1 2 0 1\n# why: first stage (satp), level 2: V is 0\nok\n",
+        );
+        assert_eq!(coverage.lengths, BTreeMap::from([(1, 1)]));
     }
 
     #[test]

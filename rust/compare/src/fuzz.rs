@@ -4,6 +4,8 @@
 use std::io;
 use std::path::Path;
 
+use second::lines::LONGEST_LINE;
+
 use crate::generate::{bad_script, script};
 use crate::program::{Script, FILES};
 use crate::rng::Rng;
@@ -139,11 +141,12 @@ pub fn fuzzed(seed: u64, place: u64, corpus: &Corpus, folder: &Path) -> Script {
     for _ in 0..rng.below(4) {
         damage(&mut rng, &mut bytes, corpus, folder);
     }
-    split(bytes, rng.chance(40))
+    let (through_input, explained) = (rng.chance(40), rng.chance(40));
+    split(bytes, through_input, explained)
 }
 
 /// The script with these bytes.
-fn split(bytes: Vec<u8>, through_input: bool) -> Script {
+fn split(bytes: Vec<u8>, through_input: bool, explained: bool) -> Script {
     let mut lines: Vec<Vec<u8>> = bytes
         .split(|byte| *byte == b'\n')
         .map(<[u8]>::to_vec)
@@ -156,6 +159,7 @@ fn split(bytes: Vec<u8>, through_input: bool) -> Script {
         lines,
         last_newline,
         through_input,
+        explained,
     }
 }
 
@@ -363,7 +367,10 @@ fn insert_long(rng: &mut Rng, bytes: &mut Vec<u8>) {
         b" 0",
         b"wfi\n",
     ]);
-    let length = rng.pick(&[100, 4096, 65_536, 300_000]);
+    let length = match rng.below(20) {
+        0 => rng.pick(&[LONGEST_LINE, LONGEST_LINE + 1]),
+        _ => rng.pick(&[100, 4096, 65_536, 300_000]),
+    };
     bytes.splice(at..at, piece.repeat(length / piece.len()));
 }
 
@@ -394,7 +401,7 @@ mod tests {
             b"\n\na\r\n\0",
             b"a\nb",
         ] {
-            assert_eq!(split(bytes.to_vec(), false).bytes(), bytes);
+            assert_eq!(split(bytes.to_vec(), false, false).bytes(), bytes);
         }
     }
 }

@@ -6,8 +6,11 @@ use second::hart::Mode;
 
 use crate::coverage::Coverage;
 use crate::program::Script;
-use crate::scenes::{bad, edges, flips, journeys, refusals, registers, traps, walks};
+use crate::scenes::{bad, edges, flips, journeys, long, refusals, registers, traps, walks};
 use crate::scribe::Scribe;
+
+/// How many of a hundred scripts ask for reasons too.
+const EXPLAINED: u64 = 50;
 
 /// The seed of a script: every script of a run has its own.
 fn script_seed(seed: u64, place: u64) -> u64 {
@@ -28,10 +31,31 @@ pub fn script(seed: u64, place: u64, events: u64, folder: &Path) -> (Script, Cov
     finished(scribe)
 }
 
-/// A script in which every single bit of a hart in this mode is flipped.
+/// A script in which every single bit of a hart in this mode is flipped, behind images around the largest. It always asks for
+/// reasons: some have no other scene, or only rare ones.
 pub fn flips_script(seed: u64, mode: Mode, folder: &Path) -> (Script, Coverage) {
     let mut scribe = Scribe::new(script_seed(seed, !(mode as u64)), folder.to_path_buf());
+    edges::around_the_largest(&mut scribe);
     flips::flips(&mut scribe, mode);
+    let (script, coverage) = finished(scribe);
+    let explained = true;
+    (
+        Script {
+            explained,
+            ..script
+        },
+        coverage,
+    )
+}
+
+/// A script with one of the longest lines, or with one that is a byte longer and bad, by its place in the run.
+pub fn long_script(seed: u64, place: u64, folder: &Path) -> (Script, Coverage) {
+    let mut scribe = Scribe::new(
+        script_seed(seed.rotate_left(32), place),
+        folder.to_path_buf(),
+    );
+    scribe.line("wfi");
+    long::long_line(&mut scribe, place);
     finished(scribe)
 }
 
@@ -49,9 +73,10 @@ pub fn bad_script(seed: u64, place: u64, folder: &Path) -> (Script, Coverage) {
         ]);
         scribe.line(line);
         if scribe.rng.chance(20) {
-            let blank = scribe
-                .rng
-                .pick(&[&b""[..], b"  ", b"\t\r", b"# load 0 8", b"  #\xff"]);
+            let blank =
+                scribe
+                    .rng
+                    .pick(&[&b""[..], b"  ", b"\t\r", b"# load 0 8", b"  #\xff", b"#\0"]);
             scribe.lines.push(blank.to_vec());
         }
     }
@@ -64,6 +89,7 @@ fn finished(mut scribe: Scribe) -> (Script, Coverage) {
     let script = Script {
         last_newline: scribe.rng.chance(80),
         through_input: scribe.rng.chance(25),
+        explained: scribe.rng.chance(EXPLAINED),
         lines: scribe.lines,
     };
     (script, scribe.coverage)
@@ -89,6 +115,7 @@ impl Sweep {
             self.numbers(scribe);
             self.registers(scribe);
         }
+        traps::wrong_requests(scribe);
     }
 
     fn numbers(&mut self, scribe: &mut Scribe) {

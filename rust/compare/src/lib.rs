@@ -8,6 +8,7 @@
 //! | [`scenes`] | the scenes that a script is made of |
 //! | [`generate`] | a whole script from a seed |
 //! | [`fuzz`] | damaged scripts and random bytes from a seed |
+//! | [`reasons`] | the kinds of reasons that programs give |
 //! | [`coverage`] | what the scripts and their answers reached, and what they must reach |
 //! | [`program`] | a program under comparison: a process, or a function in this process |
 //! | [`shrink`] | the smallest script that still shows a difference |
@@ -21,6 +22,7 @@ pub mod coverage;
 pub mod fuzz;
 pub mod generate;
 pub mod program;
+pub mod reasons;
 pub mod rng;
 pub mod scenes;
 pub mod scribe;

@@ -1,5 +1,7 @@
 //! `compare FIRST SECOND [--events N] [--seed S]`: runs two programs over generated replay scripts.
 //! `compare FIRST SECOND --fuzz N [--corpus FOLDER] [--seed S]`: over N random and damaged ones.
+//! With `--options A B` the programs are asked for reasons by these options instead of `--explain` and `--why`, with
+//! `--answers` not at all.
 //!
 //! Exit status: 0 where they agree everywhere (and a run of 200,000 events or more has reached everything that can be
 //! reached), 1 where they differ or something was not reached, 2 where the comparison could not be made.
@@ -15,13 +17,16 @@ use compare::fuzz::Corpus;
 use compare::program::{Folder, Process};
 
 const USAGE: &str =
-    "usage: compare FIRST SECOND [--events N | --fuzz N [--corpus FOLDER]] [--seed S]   (decimal numbers)";
+    "usage: compare FIRST SECOND [--events N | --fuzz N [--corpus FOLDER]] [--seed S] \
+     [--options A B | --answers]   (decimal numbers)";
 
 /// What the command line asks for.
 struct Request {
     first: OsString,
     second: OsString,
     options: Options,
+    /// The options by which the two programs are asked for reasons, if they are.
+    explaining: Option<[String; 2]>,
     /// How many fuzzed scripts, instead of generated ones.
     fuzz: Option<u64>,
     corpus: Corpus,
@@ -44,6 +49,7 @@ fn read_arguments(arguments: &[OsString]) -> Result<Request, String> {
         seed: seed_from_clock(),
     };
     let mut programs = Vec::new();
+    let mut explaining = Some(["--explain", "--why"].map(str::to_string));
     let mut scripts = None;
     let mut corpus = Corpus::default();
     let mut rest = arguments.iter();
@@ -57,6 +63,14 @@ fn read_arguments(arguments: &[OsString]) -> Result<Request, String> {
                     .map_err(|error| format!("{folder:?} can't be read: {error}"))?;
             }
             Some("--seed") => options.seed = number("--seed", rest.next())?,
+            Some("--answers") => explaining = None,
+            Some("--options") => {
+                let mut option = || rest.next().and_then(|option| option.to_str());
+                let (Some(one), Some(other)) = (option(), option()) else {
+                    return Err("--options needs two options".to_string());
+                };
+                explaining = Some([one, other].map(str::to_string));
+            }
             Some(option) if option.starts_with("--") => {
                 return Err(format!("{option} is no option"));
             }
@@ -68,6 +82,7 @@ fn read_arguments(arguments: &[OsString]) -> Result<Request, String> {
             first: first.clone(),
             second: second.clone(),
             options,
+            explaining,
             fuzz: scripts,
             corpus,
         }),
@@ -92,10 +107,15 @@ fn seed_from_clock() -> u64 {
 fn run(request: &Request) -> Result<ExitCode, String> {
     let options = &request.options;
     let folder = Folder::new().map_err(|error| format!("no folder for the scripts: {error}"))?;
-    let start = |path: &OsString| {
-        Process::new(path, &folder).map_err(|error| format!("{path:?} can't be run: {error}"))
+    let start = |path: &OsString, place: usize| {
+        let process = Process::new(path, &folder)
+            .map_err(|error| format!("{path:?} can't be run: {error}"))?;
+        Ok::<Process, String>(match &request.explaining {
+            Some(options) => process.explaining(&options[place]),
+            None => process,
+        })
     };
-    let (one, other) = (start(&request.first)?, start(&request.second)?);
+    let (one, other) = (start(&request.first, 0)?, start(&request.second, 1)?);
     let begin = Instant::now();
     let seconds = || say(&format!("seconds {:.1}", begin.elapsed().as_secs_f64()));
     let ended = if let Some(scripts) = request.fuzz {
@@ -115,7 +135,11 @@ fn run(request: &Request) -> Result<ExitCode, String> {
         compare(&one, &other, options, folder.path()).map(|coverage| {
             say(coverage.table().trim_end());
             seconds();
-            judge(options, &coverage.missing())
+            let mut missing = coverage.missing();
+            if request.explaining.is_some() {
+                missing.extend(coverage.missing_reasons());
+            }
+            judge(options, &missing)
         })
     };
     match ended {

@@ -7,7 +7,9 @@ use std::process::{Command, ExitStatus, Stdio};
 use std::sync::mpsc;
 use std::time::Duration;
 
-use second::script::{parse, write_answer, Answer, Bad, Line, Session};
+use second::script::{run_by, Answer, Bad, End, Line, Session, Trouble, Writing};
+
+pub use second::script::Perform;
 
 /// A script and how it is given to a program.
 #[derive(Clone, Debug, PartialEq, Eq)]
@@ -18,6 +20,8 @@ pub struct Script {
     pub last_newline: bool,
     /// Whether the program reads it from standard input instead of a file.
     pub through_input: bool,
+    /// Whether the program is asked for its reasons too.
+    pub explained: bool,
 }
 
 impl Script {
@@ -66,6 +70,11 @@ pub struct Outcome {
 pub trait Program {
     /// Its name, for people.
     fn name(&self) -> String;
+
+    /// Whether it can be asked for its reasons; else it is given no script with `explained`.
+    fn explains(&self) -> bool {
+        false
+    }
 
     /// Runs a script. An error means that it could not be run at all.
     fn run(&self, script: &Script) -> io::Result<Outcome>;
@@ -142,6 +151,8 @@ const OUTPUT_LIMIT: u64 = 1 << 30;
 pub struct Process<'a> {
     path: OsString,
     folder: &'a Folder,
+    /// The option that asks for reasons.
+    option: Option<OsString>,
 }
 
 impl<'a> Process<'a> {
@@ -154,13 +165,29 @@ impl<'a> Process<'a> {
         } else {
             path.clone()
         };
-        Ok(Process { path, folder })
+        Ok(Process {
+            path,
+            folder,
+            option: None,
+        })
+    }
+
+    /// The same program, which writes its reasons too where it is called with this option.
+    pub fn explaining(self, option: &str) -> Process<'a> {
+        Process {
+            option: Some(OsString::from(option)),
+            ..self
+        }
     }
 }
 
 impl Program for Process<'_> {
     fn name(&self) -> String {
         self.path.to_string_lossy().into_owned()
+    }
+
+    fn explains(&self) -> bool {
+        self.option.is_some()
     }
 
     fn run(&self, script: &Script) -> io::Result<Outcome> {
@@ -170,6 +197,9 @@ impl Program for Process<'_> {
             .current_dir(self.folder.path())
             .stdout(Stdio::piped())
             .stderr(Stdio::null());
+        if script.explained {
+            command.args(&self.option);
+        }
         if script.through_input {
             command.stdin(Stdio::piped());
         } else {
@@ -213,10 +243,7 @@ impl Program for Process<'_> {
 
 // A function in this process.
 
-/// What a program in this process does with a line: the model, or an altered copy of it.
-pub type Perform = fn(&mut Session, &Line) -> Result<Answer, Bad>;
-
-/// The model itself.
+/// The model itself: what a program in this process does with a line, unless it is altered.
 pub fn model(session: &mut Session, line: &Line) -> Result<Answer, Bad> {
     session.perform(line)
 }
@@ -236,29 +263,28 @@ impl Program for InProcess<'_> {
         self.name.to_string()
     }
 
+    fn explains(&self) -> bool {
+        true
+    }
+
     fn run(&self, script: &Script) -> io::Result<Outcome> {
         let mut session = Session::new(self.folder.path().to_path_buf());
+        let writing = if script.explained {
+            Writing::Reasons
+        } else {
+            Writing::Answers
+        };
         let mut output = Vec::new();
-        for (place, line) in script.lines.iter().enumerate() {
-            let answer = match parse(line) {
-                Ok(None) => continue,
-                Ok(Some(line)) => (self.perform)(&mut session, &line),
-                Err(bad) => Err(bad),
-            };
-            match answer {
-                Ok(answer) => write_answer(&mut output, &answer)?,
-                Err(_) => {
-                    writeln!(output, "error {:x}", place + 1)?;
-                    return Ok(Outcome {
-                        output,
-                        status: Status::Exit(1),
-                    });
-                }
-            }
-        }
+        let bytes = script.bytes();
+        let end = run_by(self.perform, &mut session, writing, &bytes[..], &mut output);
+        let status = match end {
+            Ok(End::Whole) => 0,
+            Ok(End::Bad { .. }) => 1,
+            Err(Trouble::Input(error) | Trouble::Output(error)) => return Err(error),
+        };
         Ok(Outcome {
             output,
-            status: Status::Exit(0),
+            status: Status::Exit(status),
         })
     }
 }

@@ -4,6 +4,7 @@ pub mod bad;
 pub mod edges;
 pub mod flips;
 pub mod journeys;
+pub mod long;
 pub mod refusals;
 pub mod registers;
 pub mod traps;

@@ -6,12 +6,16 @@ use std::io;
 use compare::comparing::{compare, Difference, Failure, Options, FULL_RUN};
 use compare::coverage::Meeting;
 use compare::program::{model, Folder, InProcess, Outcome, Perform, Program, Script, Status};
+use second::address::GuestPhysical;
 use second::bits::{bit, with_bit};
-use second::hart::Mode;
-use second::registers::{mpp, MPV, MXR, SPVP, SUM};
+use second::hart::{BadHart, Mode};
+use second::image::BadImage;
+use second::lines::LONGEST_LINE;
+use second::reasons::Reason;
+use second::registers::{mpp, Wrong, MPV, MXR, ROWS, SPVP, SUM};
 use second::script::{Answer, Bad, Instruction, Line, Session};
-use second::trap::{Ending, Target};
-use second::walk::{self, effective_mode, Access};
+use second::trap::{BadRequest, Control, Ending, Forbidden, Refusal, Target};
+use second::walk::{self, effective_mode, Access, BadAccess, Part, Rule, Why};
 
 /// Compares the model with an altered copy over at most this many events.
 fn find(perform: Perform, events: u64) -> Option<Difference> {
@@ -208,7 +212,7 @@ fn a_copy_with_another_order_of_refusals() {
     fn image_first(session: &mut Session, line: &Line) -> Result<Answer, Bad> {
         let answer = session.perform(line)?;
         if let Answer::Translation(mut translation) = answer.clone() {
-            if translation.answer == walk::Answer::Refused(2) && session.image.is_refused() {
+            if translation.answer == walk::Answer::Refused(2) && session.image.refusal().is_some() {
                 translation.answer = walk::Answer::Refused(1);
                 return Ok(Answer::Translation(translation));
             }
@@ -298,6 +302,10 @@ impl Program for Changed<'_> {
         "changed".to_string()
     }
 
+    fn explains(&self) -> bool {
+        true
+    }
+
     fn run(&self, script: &Script) -> io::Result<Outcome> {
         let program = InProcess {
             name: "the model",
@@ -309,6 +317,10 @@ impl Program for Changed<'_> {
 }
 
 fn changed(change: fn(Outcome) -> Outcome) -> Difference {
+    found_in_changed(change).expect("caught")
+}
+
+fn found_in_changed(change: fn(Outcome) -> Outcome) -> Option<Difference> {
     let folder = Folder::new().unwrap();
     let first = Changed {
         folder: &folder,
@@ -319,7 +331,7 @@ fn changed(change: fn(Outcome) -> Outcome) -> Difference {
         perform: model,
         folder: &folder,
     };
-    compare_in(&folder, &first, &second, 5_000).expect("caught")
+    compare_in(&folder, &first, &second, 5_000)
 }
 
 #[test]
@@ -397,7 +409,398 @@ fn a_copy_that_overlooks_one_bit() {
         session.perform(line)
     }
     let difference = caught(overlooks, 2);
-    assert_eq!(difference.second.output, b"refused 2\n");
+    assert!(difference.second.output.starts_with(b"refused 2\n"));
+}
+
+// Copies whose answers are right, and only a reason is wrong.
+
+/// The wrong reasons.
+const WRONG_REASONS: [fn(&mut Reason); 22] = [
+    // Faults.
+    |reason| fault(reason, |why| why.level = why.level.map(|level| level ^ 1)),
+    |reason| {
+        fault(reason, |why| {
+            if why.rule == Rule::EntryOutside {
+                why.address ^= 0x1000;
+            }
+        })
+    },
+    |reason| {
+        fault(reason, |why| {
+            if why.rule == Rule::AccessOutside {
+                why.address ^= 1;
+            }
+        })
+    },
+    |reason| {
+        fault(reason, |why| {
+            if why.rule == Rule::Misaligned {
+                why.width ^= 8;
+            }
+        })
+    },
+    |reason| {
+        fault(reason, |why| {
+            if why.part == Part::HgatpForEntry {
+                why.guest = why.guest.map(|guest| GuestPhysical(guest.0 & !0xfff));
+            }
+        })
+    },
+    |reason| {
+        fault(reason, |why| {
+            if why.part == Part::HgatpForAccess {
+                why.part = Part::HgatpForEntry;
+            }
+        })
+    },
+    |reason| {
+        fault(reason, |why| {
+            if why.part == Part::Vsatp {
+                why.part = Part::Satp;
+            }
+        })
+    },
+    |reason| {
+        fault(reason, |why| {
+            if why.rule == Rule::WriteWithoutRead {
+                why.rule = Rule::NotReadable;
+            }
+        })
+    },
+    |reason| {
+        fault(reason, |why| {
+            if (why.rule, why.level) == (Rule::PointerWithU, Some(2)) && why.part == Part::Satp {
+                why.rule = Rule::PointerWithD;
+            }
+        })
+    },
+    // Refusals.
+    |reason| {
+        refusal(reason, |refusal| {
+            if let Refusal::Hart(BadHart::Register(row, Wrong::Bit(bit))) = refusal {
+                *refusal = Refusal::Hart(BadHart::Register(row, Wrong::Bit(*bit ^ 1)));
+            }
+        })
+    },
+    |reason| {
+        refusal(reason, |refusal| {
+            if let Refusal::Hart(BadHart::Register(row, wrong @ Wrong::Field(..))) = refusal {
+                *row = ROWS.iter().rfind(|other| other.name != row.name).unwrap();
+                *refusal = Refusal::Hart(BadHart::Register(row, *wrong));
+            }
+        })
+    },
+    |reason| {
+        refusal(reason, |refusal| {
+            if let Refusal::Hart(BadHart::MprvOutsideM) = refusal {
+                *refusal = Refusal::Hart(BadHart::Pc(0));
+            }
+        })
+    },
+    |reason| {
+        refusal(reason, |refusal| {
+            if let Refusal::Hart(BadHart::Mode(v, privilege)) = refusal {
+                *refusal = Refusal::Hart(BadHart::Mode(*v & 1, *privilege));
+            }
+        })
+    },
+    |reason| {
+        refusal(reason, |refusal| {
+            if let Refusal::Image(BadImage::End(end)) = refusal {
+                *refusal = Refusal::Image(BadImage::End(*end & u128::from(u64::MAX)));
+            }
+        })
+    },
+    |reason| {
+        refusal(reason, |refusal| {
+            if let Refusal::Image(BadImage::Length(_)) = refusal {
+                *refusal = Refusal::Image(BadImage::Base(0));
+            }
+        })
+    },
+    |reason| {
+        refusal(reason, |refusal| {
+            if let Refusal::Access(BadAccess::FetchWidth(width)) = refusal {
+                *refusal = Refusal::Access(BadAccess::Width(*width));
+            }
+        })
+    },
+    |reason| {
+        refusal(reason, |refusal| {
+            if let Refusal::Request(BadRequest::FlagClearWithV(cause)) = refusal {
+                *refusal = Refusal::Request(BadRequest::FlagClear(*cause));
+            }
+        })
+    },
+    |reason| {
+        refusal(reason, |refusal| {
+            if let Refusal::Number(number) = refusal {
+                *refusal = Refusal::Number(*number & 0xffff_ffff);
+            }
+        })
+    },
+    // Traps.
+    |reason| {
+        forbidden(reason, |rule| {
+            if let Forbidden::Bit(Control::Vtvm) = rule {
+                *rule = Forbidden::Bit(Control::Tvm);
+            }
+        })
+    },
+    |reason| {
+        forbidden(reason, |rule| {
+            if let Forbidden::Register(row, Mode::Vu) = rule {
+                *rule = Forbidden::Register(row, Mode::Vs);
+            }
+        })
+    },
+    |reason| {
+        forbidden(reason, |rule| {
+            if let Forbidden::Instruction("HFENCE.VVMA", mode) = rule {
+                *rule = Forbidden::Instruction("HFENCE.GVMA", *mode);
+            }
+        })
+    },
+    |reason| {
+        forbidden(reason, |rule| {
+            if let Forbidden::ReadOnly(row) = rule {
+                *rule = Forbidden::Unlisted(row.number);
+            }
+        })
+    },
+];
+
+fn fault(reason: &mut Reason, change: fn(&mut Why)) {
+    if let Reason::Fault(why) = reason {
+        change(why);
+    }
+}
+
+fn refusal(reason: &mut Reason, change: fn(&mut Refusal)) {
+    if let Reason::Refused(refusal) = reason {
+        change(refusal);
+    }
+}
+
+fn forbidden(reason: &mut Reason, change: fn(&mut Forbidden)) {
+    if let Reason::Forbidden(rule) = reason {
+        change(rule);
+    }
+}
+
+/// The model with the wrong reason number `N`.
+fn wrong_reason<const N: usize>(session: &mut Session, line: &Line) -> Result<Answer, Bad> {
+    let mut answer = session.perform(line)?;
+    let Some(mut reason) = answer.reason() else {
+        return Ok(answer);
+    };
+    WRONG_REASONS[N](&mut reason);
+    match (&mut answer, reason) {
+        (Answer::Translation(translation), Reason::Fault(why)) => translation.why = Some(why),
+        (Answer::Translation(translation), Reason::Refused(refusal)) => {
+            translation.refusal = Some(refusal);
+        }
+        (Answer::Register(accessed), reason) => accessed.outcome.reason = Some(reason),
+        (Answer::Event(outcome), reason) => outcome.reason = Some(reason),
+        (answer, reason) => panic!("{answer:?} has no reason like {reason:?}"),
+    }
+    Ok(answer)
+}
+
+/// A run whose programs differ in nothing but reasons.
+fn differs_in_reasons(difference: &Difference) {
+    assert!(difference.script.explained);
+    let answers = |output: &[u8]| {
+        let lines = output.split_inclusive(|byte| *byte == b'\n');
+        let answers = lines.filter(|line| !line.starts_with(b"# why: "));
+        answers.flatten().copied().collect::<Vec<u8>>()
+    };
+    let (first, second) = (&difference.first, &difference.second);
+    assert_eq!(answers(&first.output), answers(&second.output));
+    assert_ne!(first.output, second.output);
+    assert!(difference.to_string().contains(", with reasons)"));
+}
+
+#[test]
+fn copies_with_a_wrong_reason() {
+    let copies: [Perform; WRONG_REASONS.len()] = [
+        wrong_reason::<0>,
+        wrong_reason::<1>,
+        wrong_reason::<2>,
+        wrong_reason::<3>,
+        wrong_reason::<4>,
+        wrong_reason::<5>,
+        wrong_reason::<6>,
+        wrong_reason::<7>,
+        wrong_reason::<8>,
+        wrong_reason::<9>,
+        wrong_reason::<10>,
+        wrong_reason::<11>,
+        wrong_reason::<12>,
+        wrong_reason::<13>,
+        wrong_reason::<14>,
+        wrong_reason::<15>,
+        wrong_reason::<16>,
+        wrong_reason::<17>,
+        wrong_reason::<18>,
+        wrong_reason::<19>,
+        wrong_reason::<20>,
+        wrong_reason::<21>,
+    ];
+    for (place, perform) in copies.into_iter().enumerate() {
+        println!("wrong reason {place}");
+        differs_in_reasons(&caught(perform, 16));
+    }
+}
+
+#[test]
+fn a_copy_without_a_reason() {
+    fn silent(session: &mut Session, line: &Line) -> Result<Answer, Bad> {
+        let mut answer = session.perform(line)?;
+        if let Answer::Event(outcome) = &mut answer {
+            outcome.reason = None;
+        }
+        Ok(answer)
+    }
+    differs_in_reasons(&caught(silent, 3));
+}
+
+#[test]
+fn a_copy_with_a_reason_where_none_is_needed() {
+    fn talkative(session: &mut Session, line: &Line) -> Result<Answer, Bad> {
+        let mut answer = session.perform(line)?;
+        if let Answer::Event(outcome) = &mut answer {
+            if *line == Line::Instruction(Instruction::Ecall) && outcome.reason.is_none() {
+                outcome.reason = Some(Reason::Forbidden(Forbidden::Bit(Control::Tw)));
+            }
+        }
+        Ok(answer)
+    }
+    differs_in_reasons(&caught(talkative, 1));
+}
+
+/// The output with its lines changed.
+fn with_lines(outcome: Outcome, change: fn(Vec<Vec<u8>>) -> Vec<Vec<u8>>) -> Outcome {
+    let lines = outcome.output.split_inclusive(|byte| *byte == b'\n');
+    Outcome {
+        output: change(lines.map(<[u8]>::to_vec).collect()).concat(),
+        status: outcome.status,
+    }
+}
+
+fn is_reason(line: &[u8]) -> bool {
+    line.starts_with(b"# why: ")
+}
+
+#[test]
+fn reasons_in_another_place() {
+    let difference = changed(|outcome| {
+        with_lines(outcome, |mut lines| {
+            for place in 1..lines.len() {
+                if is_reason(&lines[place]) {
+                    lines.swap(place - 1, place);
+                }
+            }
+            lines
+        })
+    });
+    differs_in_reasons(&difference);
+}
+
+/// Puts lines behind each line of an output that has reasons.
+fn with_more(outcome: Outcome, more: fn(Vec<u8>) -> Vec<Vec<u8>>) -> Outcome {
+    let mut lines = outcome.output.split(|byte| *byte == b'\n');
+    if !lines.any(is_reason) {
+        return outcome;
+    }
+    let lines = outcome.output.split_inclusive(|byte| *byte == b'\n');
+    Outcome {
+        output: lines.map(<[u8]>::to_vec).flat_map(more).flatten().collect(),
+        status: outcome.status,
+    }
+}
+
+#[test]
+fn other_explanations_do_not_count_where_reasons_are_asked_for() {
+    fn explained(outcome: Outcome) -> Outcome {
+        with_more(outcome, |line| vec![line, b"# and\n# why not\n".to_vec()])
+    }
+    assert_eq!(found_in_changed(explained), None);
+    // Without `# ` it is no explanation.
+    fn without_blank(outcome: Outcome) -> Outcome {
+        with_more(outcome, |line| vec![line, b"#\n".to_vec()])
+    }
+    assert!(changed(without_blank).script.explained);
+    // And where no reasons are asked for there are none.
+    fn always(outcome: Outcome) -> Outcome {
+        with_lines(outcome, |mut lines| {
+            lines.insert(0, b"# hart\n".to_vec());
+            lines
+        })
+    }
+    assert!(!changed(always).script.explained);
+}
+
+/// A program that can't be asked for reasons.
+struct Plain<'a>(InProcess<'a>);
+
+impl Program for Plain<'_> {
+    fn name(&self) -> String {
+        "plain".to_string()
+    }
+
+    fn run(&self, script: &Script) -> io::Result<Outcome> {
+        assert!(!script.explained);
+        self.0.run(script)
+    }
+}
+
+#[test]
+fn a_program_without_reasons_is_compared_by_its_answers() {
+    let folder = Folder::new().unwrap();
+    let in_process = |name| InProcess {
+        name,
+        perform: model,
+        folder: &folder,
+    };
+    let (plain, model) = (Plain(in_process("plain")), in_process("the model"));
+    assert_eq!(compare_in(&folder, &plain, &model, 3_000), None);
+    assert_eq!(compare_in(&folder, &model, &plain, 3_000), None);
+}
+
+#[test]
+fn a_copy_with_another_longest_line() {
+    struct Longer<'a>(InProcess<'a>);
+    impl Program for Longer<'_> {
+        fn name(&self) -> String {
+            "longer".to_string()
+        }
+
+        /// Lines of blanks are cut before the model sees them, so that it takes any number of them.
+        fn run(&self, script: &Script) -> io::Result<Outcome> {
+            let blank = |line: &Vec<u8>| line.iter().all(|byte| *byte == b' ');
+            let lines = script.lines.iter();
+            let cut = lines.map(|line| {
+                if blank(line) {
+                    Vec::new()
+                } else {
+                    line.clone()
+                }
+            });
+            self.0.run(&script.with_lines(cut.collect()))
+        }
+    }
+    let folder = Folder::new().unwrap();
+    let in_process = || InProcess {
+        name: "the model",
+        perform: model,
+        folder: &folder,
+    };
+    let difference = compare_in(&folder, &Longer(in_process()), &in_process(), 3_000).unwrap();
+    assert_eq!(difference.script.lines.len(), 1);
+    assert_eq!(difference.script.lines[0].len(), LONGEST_LINE + 1);
+    // It is told without all of it.
+    assert!(difference.to_string().len() < 2_000);
 }
 
 #[test]
@@ -416,6 +819,7 @@ fn a_run_reaches_everything() {
         panic!("the model differs from itself");
     };
     assert_eq!(coverage.missing(), Vec::<String>::new());
+    assert_eq!(coverage.missing_reasons(), Vec::<String>::new());
     assert_eq!(coverage.flips.len(), 5 * 2 * 30 * 64);
     coverage.flips.remove(&(Mode::Vs, Meeting::Event, 2, 63));
     assert_eq!(coverage.missing(), ["1 flipped bits in Vs by Event"]);

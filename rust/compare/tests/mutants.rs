@@ -1,5 +1,6 @@
 //! Altered copies of the second program's source, one small change each, compiled and compared with the unaltered library:
-//! every one must be caught within a full run, and must change an answer of an example where it isn't about the script language.
+//! every one must be caught within a full run, and must change an answer of an example where it isn't about the script language
+//! or about reasons alone.
 //! This takes minutes, so it runs only when asked for:
 //!
 //! `cargo test --release -p compare --test mutants -- --ignored --nocapture`
@@ -23,15 +24,15 @@ const MUTANTS: &[Mutant] = &[
     Mutant("registers.rs", "0xf3ff_ffff_ffff_fffc", "0xf3ff_ffff_ffff_ffff"),
     Mutant("registers.rs", "if mpp(value) == 2 {", "if mpp(value) == 4 {"),
     Mutant("registers.rs", "with_mpp(written, mpp(old))", "with_mpp(written, 0)"),
-    Mutant("registers.rs", "MSTATUS => mpp(value) != 2", "MSTATUS => true"),
-    Mutant("registers.rs", "SATP | VSATP | HGATP => mode_is_allowed(value)", "SATP | HGATP => mode_is_allowed(value)"),
+    Mutant("registers.rs", "allowed: &[0, 1, 3]", "allowed: &[0, 1, 2, 3]"),
+    Mutant("registers.rs", "SATP | VSATP | HGATP => &ATP_FIELDS", "SATP | HGATP => &ATP_FIELDS"),
     Mutant("registers.rs", "atp_mode(old))\n", "0)\n"),
     Mutant("registers.rs", "SATP | VSATP => atp_after_write(old, value)", "SATP => atp_after_write(old, value)"),
     Mutant("registers.rs", "field(atp, 0, 44)", "field(atp, 0, 43)"),
     Mutant("registers.rs", "| (1 << HU)\n", "\n"),
     // hart.rs
     Mutant("hart.rs", "self.pc.is_multiple_of(4)", "self.pc.is_multiple_of(2)"),
-    Mutant("hart.rs", "(mode == Mode::M || !bit(self.mstatus, MPRV))", "(mode == Mode::M || mode == Mode::Hs || !bit(self.mstatus, MPRV))"),
+    Mutant("hart.rs", "if mode != Mode::M && bit(self.mstatus, MPRV)", "if mode != Mode::M && mode != Mode::Hs && bit(self.mstatus, MPRV)"),
     Mutant("hart.rs", "(1, 1) => Some(Mode::Vs),", "(1, 1) | (1, 3) => Some(Mode::Vs),"),
     Mutant("hart.rs", "self.pc.wrapping_add(4)", "self.pc.saturating_add(4)"),
     Mutant("hart.rs", "            _ => Mode::M,\n", "            _ if mpv => Mode::Vs,\n            _ => Mode::M,\n"),
@@ -41,10 +42,10 @@ const MUTANTS: &[Mutant] = &[
     Mutant("trap.rs", "10 => mode != Mode::Vs", "10 => !mode.v()"),
     Mutant("trap.rs", "trap.cause == VIRTUAL_INSTRUCTION && !mode.v()", "trap.cause == VIRTUAL_INSTRUCTION && mode == Mode::M"),
     Mutant("trap.rs", "matches!(trap.cause, 8..=11) && trap.value != 0", "matches!(trap.cause, 8..=10) && trap.value != 0"),
-    Mutant("trap.rs", "(trap.second != 0 || trap.word != 0)", "(trap.second != 0)"),
-    Mutant("trap.rs", "2 | 8..=11 | 22 => trap.flag,", "2 | 8..=11 => trap.flag,\n        22 => false,"),
-    Mutant("trap.rs", "20 | 21 | 23 => !trap.flag,", "20 | 21 | 23 => mode.v() && !trap.flag,"),
-    Mutant("trap.rs", "_ => mode.v() && !trap.flag,", "_ => mode.v() != trap.flag,"),
+    Mutant("trap.rs", "} else if trap.word != 0 {", "} else if false {"),
+    Mutant("trap.rs", "2 | 8..=11 | 22 => trap.flag", "22 => None,\n        2 | 8..=11 => trap.flag"),
+    Mutant("trap.rs", "(!trap.flag).then_some(BadRequest::FlagClear(cause))", "(mode.v() && !trap.flag).then_some(BadRequest::FlagClear(cause))"),
+    Mutant("trap.rs", "(mode.v() && !trap.flag).then_some", "(mode.v() != trap.flag).then_some"),
     Mutant("trap.rs", "if mode == Mode::M || !delegates(hart.medeleg, cause)", "if !delegates(hart.medeleg, cause)"),
     Mutant("trap.rs", "mode.v() && delegates(hart.hedeleg, cause)", "delegates(hart.hedeleg, cause)"),
     Mutant("trap.rs", "tvec & !0b11", "tvec"),
@@ -70,30 +71,30 @@ const MUTANTS: &[Mutant] = &[
     Mutant("returns.rs", "after.pc = hart.vsepc;", "after.pc = hart.sepc;"),
     Mutant("returns.rs", "after.vsstatus = with_bit(after.vsstatus, SPIE, true);", ""),
     // access.rs
-    Mutant("access.rs", "if number > 4095 {", "if number > 4096 {"),
+    Mutant("access.rs", "if number > LAST_NUMBER {", "if number > LAST_NUMBER + 1 {"),
     Mutant("access.rs", "if row.read_only && writes {", "if row.read_only && writes && !mode.v() {"),
     Mutant("access.rs", "row.number == SATP || row.number == HGATP;", "row.number == SATP;"),
     Mutant("access.rs", "Level::S if row.number == SATP && bit(hart.hstatus, VTVM)", "Level::S if row.number == SATP && bit(hart.mstatus, TVM)"),
-    Mutant("access.rs", "Level::S => vs_register_of(row).ok_or(ILLEGAL_INSTRUCTION)", "Level::S => Ok(row)"),
+    Mutant("access.rs", "Level::S => vs_register_of(row).ok_or(illegal(out_of_reach)),", "Level::S => Ok(row),"),
     Mutant("access.rs", "Action::Set { writes, .. } | Action::Clear { writes, .. } => writes,", "Action::Set { writes, value } | Action::Clear { writes, value } => writes && value != 0,"),
     Mutant("access.rs", "after_write(row, old, action.combined(old))", "after_write(row, old, match action { Action::Set { value, .. } if row.number == SATP => value, other => other.combined(old) })"),
-    Mutant("access.rs", "            hart: after.moved_on(),", "            hart: if action.writes() && after_write(row, old, action.combined(old)) == old { *hart } else { after.moved_on() },"),
-    Mutant("access.rs", "Mode::U => Err(ILLEGAL_INSTRUCTION),", "Mode::U => Err(VIRTUAL_INSTRUCTION),"),
+    Mutant("access.rs", "outcome: trap::done(after.moved_on()),", "outcome: trap::done(if action.writes() && after_write(row, old, action.combined(old)) == old { *hart } else { after.moved_on() }),"),
+    Mutant("access.rs", "Mode::U => Err(illegal(", "Mode::U => Err(virtual_instruction("),
     Mutant("access.rs", "(hart.mstatus & !row.stored) | (new & row.stored)", "(hart.mstatus & !row.stored) | (new & row.stored & !(1 << 19))"),
     // waits.rs
     Mutant("waits.rs", "    if mode == Mode::M {\n        return None;\n    }\n", ""),
     Mutant("waits.rs", "Mode::Vs if bit(hart.hstatus, VTW)", "Mode::Vs if bit(hart.hstatus, VTVM)"),
     Mutant("waits.rs", "    if bit(hart.mstatus, TW) {", "    if bit(hart.mstatus, TW) && !mode.v() {"),
-    Mutant("waits.rs", "Mode::Vs if bit(hart.hstatus, VTVM) => Some(VIRTUAL_INSTRUCTION),", "Mode::Vs if bit(hart.hstatus, VTVM) => Some(ILLEGAL_INSTRUCTION),"),
-    Mutant("waits.rs", "        Mode::Hs if bit(hart.mstatus, TVM) => Some(ILLEGAL_INSTRUCTION),\n        _ => hfence", "        _ => hfence"),
+    Mutant("waits.rs", "Some(virtual_instruction(Forbidden::Bit(Control::Vtvm)))", "Some(illegal(Forbidden::Bit(Control::Vtvm)))"),
+    Mutant("waits.rs", "        Mode::Hs if bit(hart.mstatus, TVM) => Some(illegal(Forbidden::Bit(Control::Tvm))),\n        _ => hfence", "        _ => hfence"),
     // image.rs
     Mutant("image.rs", "length > LARGEST", "length >= LARGEST"),
     Mutant("image.rs", "base + length > END_LIMIT", "base + length >= END_LIMIT"),
-    Mutant("image.rs", "|| !length.is_multiple_of(PAGE)", ""),
+    Mutant("image.rs", "!length.is_multiple_of(PAGE)", "false"),
     Mutant("image.rs", "first >= base && first", "first + 8 >= base && first"),
     // walk.rs
     Mutant("walk.rs", "!matches!(self.width, 1 | 2 | 4 | 8)", "!matches!(self.width, 1 | 2 | 4 | 8 | 16)"),
-    Mutant("walk.rs", "(self.width != 4 || !self.address.is_multiple_of(4))", "(self.width != 4 || !self.address.is_multiple_of(2))"),
+    Mutant("walk.rs", "fetch && !self.address.is_multiple_of(4)", "fetch && !self.address.is_multiple_of(2)"),
     Mutant("walk.rs", "bit(hart.mstatus, MPRV) && kind != Kind::Fetch", "bit(hart.mstatus, MPRV)"),
     Mutant("walk.rs", "let high = field(address, 38, 26);\n    high == 0 || high == low_ones(26)", "let high = field(address, 39, 25);\n    high == 0 || high == low_ones(25)"),
     Mutant("walk.rs", "field(address.0, 41, 23) == 0", "field(address.0, 39, 25) == 0"),
@@ -131,21 +132,25 @@ const MUTANTS: &[Mutant] = &[
     Mutant("walk.rs", "Mode::U | Mode::Hs => Machine(self.first_stage(self.hart.satp)?)", "Mode::U | Mode::Hs => Machine(self.first_stage(self.hart.vsatp)?)"),
     Mutant("walk.rs", "if atp_mode(hgatp) == BARE {", "if hgatp == 0 {"),
     Mutant("walk.rs", "if atp_mode(atp) == BARE {", "if atp == 0 {"),
-    Mutant("walk.rs", "return refused(1);", "return refused(3);"),
+    Mutant("trap.rs", "Refusal::Image(_) => 1,", "Refusal::Image(_) => 3,"),
     Mutant("walk.rs", "field(entry, 10, 44)", "field(entry, 10, 43)"),
-    Mutant("walk.rs", "    if image.is_refused() {\n        return refused(1);\n    }\n    if access.is_refused() {\n        return refused(3);\n    }\n", "    if access.is_refused() {\n        return refused(3);\n    }\n    if image.is_refused() {\n        return refused(1);\n    }\n"),
-    Mutant("walk.rs", "return Err(self.access_fault(why));\n        };", "self.list.push(Read { stage, level, address: address.0, value: 0 });\n            return Err(self.access_fault(why));\n        };"),
+    Mutant("walk.rs", "    if let Some(bad) = image.refusal() {\n        return refused(Refusal::Image(bad));\n    }\n    if let Some(bad) = access.refusal() {\n        return refused(Refusal::Access(bad));\n    }\n", "    if let Some(bad) = access.refusal() {\n        return refused(Refusal::Access(bad));\n    }\n    if let Some(bad) = image.refusal() {\n        return refused(Refusal::Image(bad));\n    }\n"),
+    Mutant("walk.rs", "return Err(self.access_fault(why));\n        };", "self.list.push(Read { stage: stage.number(), level, address: place.0, value: 0 });\n            return Err(self.access_fault(why));\n        };"),
     // script.rs
     Mutant("script.rs", "word.len() > 16", "word.len() > 17"),
     Mutant("script.rs", "matches!(byte, b' ' | b'\\t' | b'\\r')", "matches!(byte, b' ' | b'\\t')"),
     Mutant("script.rs", "is_blank(*byte) || *byte == b'#')", "is_blank(*byte))"),
     Mutant("script.rs", "        1 => Ok(true),", "        1 | 2 => Ok(true),"),
+    // lines.rs
+    Mutant("lines.rs", "self.line.len() + piece.len() > LONGEST_LINE", "self.line.len() + piece.len() >= LONGEST_LINE"),
+    Mutant("lines.rs", "self.line.len() + piece.len() > LONGEST_LINE", "self.line.len() + piece.len() > LONGEST_LINE + 1"),
+    Mutant("lines.rs", "matches!(byte, b'#' | 0)", "matches!(byte, 0)"),
     // More of each.
-    Mutant("registers.rs", "SATP | VSATP | HGATP => mode_is_allowed(value)", "SATP | VSATP => mode_is_allowed(value)"),
-    Mutant("hart.rs", "Some(content) => could_be_stored(row, content),", "Some(content) => row.number == registers::MTVEC || could_be_stored(row, content),"),
-    Mutant("hart.rs", "Some(content) => could_be_stored(row, content),", "Some(content) => row.number == registers::VSEPC || could_be_stored(row, content),"),
-    Mutant("hart.rs", "Some(content) => could_be_stored(row, content),", "Some(content) => row.number == registers::HEDELEG || could_be_stored(row, content),"),
-    Mutant("hart.rs", "Some(content) => could_be_stored(row, content),", "Some(content) => could_be_stored(row, content & !(1 << 63)),"),
+    Mutant("registers.rs", "SATP | VSATP | HGATP => &ATP_FIELDS", "SATP | VSATP => &ATP_FIELDS"),
+    Mutant("hart.rs", "Some((row, wrong(row, content)?))", "Some((row, wrong(row, if row.number == registers::MTVEC { 0 } else { content })?))"),
+    Mutant("hart.rs", "Some((row, wrong(row, content)?))", "Some((row, wrong(row, if row.number == registers::VSEPC { 0 } else { content })?))"),
+    Mutant("hart.rs", "Some((row, wrong(row, content)?))", "Some((row, wrong(row, if row.number == registers::HEDELEG { 0 } else { content })?))"),
+    Mutant("hart.rs", "Some((row, wrong(row, content)?))", "Some((row, wrong(row, content & !(1 << 63))?))"),
     Mutant("trap.rs", "after.mepc = hart.pc;", "after.mepc = hart.pc.wrapping_add(4);"),
     Mutant("trap.rs", "    after.mtval2 = trap.second;\n", ""),
     Mutant("trap.rs", "after.in_mode(Mode::Vs)", "after"),
@@ -155,11 +160,11 @@ const MUTANTS: &[Mutant] = &[
     Mutant("returns.rs", "    after.mstatus = with_bit(after.mstatus, MPIE, true);\n", ""),
     Mutant("returns.rs", "    after.mstatus = with_mpp(after.mstatus, 0);\n", ""),
     Mutant("returns.rs", "after.in_mode(Mode::below_machine(true, bit(hart.vsstatus, SPP)))", "after.in_mode(Mode::below_machine(true, bit(hart.mstatus, SPP)))"),
-    Mutant("returns.rs", "Mode::Vu => Some(VIRTUAL_INSTRUCTION),", "Mode::Vu => Some(ILLEGAL_INSTRUCTION),"),
+    Mutant("returns.rs", "Mode::Vu => Some(virtual_instruction(", "Mode::Vu => Some(illegal("),
     Mutant("access.rs", "old & !value", "old & value"),
-    Mutant("access.rs", "ok_or(ILLEGAL_INSTRUCTION),\n        Level::Vs | Level::H => Err(VIRTUAL_INSTRUCTION),", "ok_or(ILLEGAL_INSTRUCTION),\n        Level::Vs | Level::H => Err(ILLEGAL_INSTRUCTION),"),
-    Mutant("access.rs", "Level::M => Err(ILLEGAL_INSTRUCTION),\n        Level::S | Level::Vs", "Level::M => Err(VIRTUAL_INSTRUCTION),\n        Level::S | Level::Vs"),
-    Mutant("access.rs", "row.level == Level::M || (trapped", "(trapped"),
+    Mutant("access.rs", "        Level::Vs | Level::H => Err(virtual_instruction(", "        Level::Vs | Level::H => Err(illegal("),
+    Mutant("access.rs", "Level::M => Err(illegal(out_of_reach)),\n        Level::S | Level::Vs", "Level::M => Err(virtual_instruction(out_of_reach)),\n        Level::S | Level::Vs"),
+    Mutant("access.rs", "if row.level == Level::M {", "if false {"),
     Mutant("access.rs", "(hart.mstatus & row.stored) | row.constant", "hart.mstatus & row.stored"),
     Mutant("walk.rs", "self.second_stage(GuestPhysical(place), Purpose::GuestEntry)", "self.second_stage(GuestPhysical(place), Purpose::Access)"),
     Mutant("walk.rs", "self.second_stage(GuestPhysical(place), Purpose::GuestEntry)", "Ok(Machine(place))"),
@@ -174,7 +179,7 @@ const MUTANTS: &[Mutant] = &[
     Mutant("walk.rs", "const TOP_LEVEL: u64 = 2;", "const TOP_LEVEL: u64 = 1;"),
     Mutant("image.rs", "u64::from_le_bytes(bytes)", "u64::from_be_bytes(bytes)"),
     Mutant("script.rs", "Some(byte) if is_blank(*byte) => trimmed(after),", "Some(byte) if is_blank(*byte) => next_word(after).0,"),
-    Mutant("script.rs", "buffer.strip_suffix(b\"\\n\").unwrap_or(&buffer)", "match buffer.strip_suffix(b\"\\n\") { Some(line) => line, None => continue }"),
+    Mutant("lines.rs", "(at_end && !self.line.is_empty())", "false"),
     // Misreadings of docs/MUTATIONS.md, "Misreadings that had changed no example".
     Mutant("walk.rs", "        if self.mode.v() {\n            bit(self.hart.vsstatus, SUM)", "        if self.hart.v == 1 {\n            bit(self.hart.vsstatus, SUM)"),
     Mutant("walk.rs", "        if self.mode.v() {\n            bit(self.hart.vsstatus, SUM)", "        if self.mode.v() {\n            (self.hart.v == 0 && bit(self.hart.mstatus, SUM)) || bit(self.hart.vsstatus, SUM)"),
@@ -192,10 +197,10 @@ const MUTANTS: &[Mutant] = &[
     Mutant("trap.rs", "    after.mtinst = trap.word;", "    if !matches!(trap.cause, 8..=11) { after.mtinst = trap.word; }"),
     Mutant("trap.rs", "    after.stval = trap.value;", "    if !matches!(trap.cause, 8..=11) { after.stval = trap.value; }"),
     Mutant("trap.rs", "    after.mtval = trap.value;", "    if !matches!(trap.cause, 8..=11) { after.mtval = trap.value; }"),
-    Mutant("waits.rs", "fn hfence_vvma_cause(_hart: &Hart, mode: Mode) -> Option<u64> {\n    match mode {", "fn hfence_vvma_cause(_hart: &Hart, mode: Mode) -> Option<u64> {\n    match mode {\n        Mode::Hs if bit(_hart.mstatus, TVM) => Some(ILLEGAL_INSTRUCTION),"),
+    Mutant("waits.rs", "wait_or_fence(hart, |_, mode| hfence_trap(\"HFENCE.VVMA\", mode))", "wait_or_fence(hart, hfence_gvma_trap)"),
     Mutant("walk.rs", "let width = if level == TOP_LEVEL { 11 }", "let width = if level == TOP_LEVEL || level == 0 { 11 }"),
-    Mutant("walk.rs", "self.fault(21, second, 0x3000, why)", "self.fault(21, second, if rule == Rule::HighBits { 0 } else { 0x3000 }, why)"),
-    Mutant("walk.rs", "self.fault(21, second, 0x3000, why)", "self.fault(if rule == Rule::HighBits { self.access.kind.guest_page_fault() } else { 21 }, second, 0x3000, why)"),
+    Mutant("walk.rs", "self.fault(21, second, 0x3000, why)", "self.fault(21, second, if why.rule == Rule::HighBits { 0 } else { 0x3000 }, why)"),
+    Mutant("walk.rs", "self.fault(21, second, 0x3000, why)", "self.fault(if why.rule == Rule::HighBits { self.access.kind.guest_page_fault() } else { 21 }, second, 0x3000, why)"),
     Mutant("trap.rs", "matches!(trap.cause, 8..=11) && trap.value != 0", "matches!(trap.cause, 2 | 8..=11) && trap.value != 0"),
     Mutant("trap.rs", "matches!(trap.cause, 8..=11) && trap.value != 0", "matches!(trap.cause, 22 | 8..=11) && trap.value != 0"),
     Mutant("walk.rs", "            right_of_kind(entry, kind, mxr)?;\n        }\n        Ok(decoded)\n    }\n}\n", "            if !(kind == Kind::Fetch && bit(entry, PTE_R)) { right_of_kind(entry, kind, mxr)?; }\n        }\n        Ok(decoded)\n    }\n}\n"),
@@ -209,6 +214,57 @@ const MUTANTS: &[Mutant] = &[
     Mutant("walk.rs", "return Ok(leaf_result(ppn, address, level)),", "return Ok(leaf_result(ppn, address, level.min(1))),"),
     Mutant("walk.rs", "leaf_result(ppn, guest.0, level)", "leaf_result(ppn, guest.0, level.min(1))"),
     Mutant("walk.rs", "leaf_result(ppn, guest.0, level)", "leaf_result(ppn, guest.0, if level == 1 { 0 } else { level })"),
+];
+
+/// Changes that no answer shows, only a reason.
+const REASONS: &[Mutant] = &[
+    // registers.rs, hart.rs
+    Mutant("registers.rs", ".min_by_key(", ".max_by_key("),
+    Mutant("registers.rs", "Field::reads_2(\"SXL\", 34)", "Field::reads_2(\"UXL\", 34)"),
+    Mutant("registers.rs", "let lowest = (content & others).trailing_zeros();", "let lowest = 63 - (content & others).leading_zeros().min(63);\n    let lowest = if content & others == 0 { 64 } else { lowest };"),
+    Mutant("registers.rs", "Some(Wrong::Field(field, holds))", "Some(Wrong::Field(field, holds & 3))"),
+    Mutant("hart.rs", "ROWS.iter().find_map(", "ROWS.iter().rev().find_map("),
+    Mutant("hart.rs", "BadHart::Mode(self.v, self.privilege)", "BadHart::Mode(self.privilege, self.v)"),
+    Mutant("hart.rs", "        if !self.pc.is_multiple_of(4) {\n            return Err(BadHart::Pc(self.pc));\n        }\n        if mode != Mode::M && bit(self.mstatus, MPRV) {\n            return Err(BadHart::MprvOutsideM);\n        }\n", "        if mode != Mode::M && bit(self.mstatus, MPRV) {\n            return Err(BadHart::MprvOutsideM);\n        }\n        if !self.pc.is_multiple_of(4) {\n            return Err(BadHart::Pc(self.pc));\n        }\n"),
+    // image.rs
+    Mutant("image.rs", "BadImage::End(base + length)", "BadImage::End(base)"),
+    Mutant("image.rs", "        } else if !base.is_multiple_of(PAGE) {\n            Some(BadImage::Base(self.base))\n        } else if !length.is_multiple_of(PAGE) {\n            Some(BadImage::Length(length))\n", "        } else if !length.is_multiple_of(PAGE) {\n            Some(BadImage::Length(length))\n        } else if !base.is_multiple_of(PAGE) {\n            Some(BadImage::Base(self.base))\n"),
+    // trap.rs
+    Mutant("trap.rs", "Some(BadRequest::Value(cause, trap.value))", "Some(BadRequest::Value(cause, trap.second))"),
+    Mutant("trap.rs", "second_value_or_word(trap).or_else(|| flag_wrong(mode, trap))", "flag_wrong(mode, trap).or_else(|| second_value_or_word(trap))"),
+    Mutant("trap.rs", "Some(BadRequest::Word(trap.cause))", "Some(BadRequest::SecondValue(trap.cause))"),
+    Mutant("trap.rs", "then_some(BadRequest::FlagClearWithV(cause))", "then_some(BadRequest::FlagClear(cause))"),
+    Mutant("trap.rs", "reason: Some(Reason::Forbidden(raised.rule)),", "reason: None,"),
+    // access.rs, returns.rs, waits.rs
+    Mutant("access.rs", "Forbidden::ReadOnly(row)", "Forbidden::Register(row, mode)"),
+    Mutant("access.rs", "Err(illegal(Forbidden::Bit(Control::Tvm)))", "Err(illegal(Forbidden::Register(row, Mode::Hs)))"),
+    Mutant("access.rs", "Err(virtual_instruction(Forbidden::Bit(Control::Vtvm)))", "Err(virtual_instruction(Forbidden::Bit(Control::Tvm)))"),
+    Mutant("access.rs", "let out_of_reach = Forbidden::Register(row, Mode::Vu);", "let out_of_reach = Forbidden::Register(row, Mode::U);"),
+    Mutant("returns.rs", "Forbidden::Bit(Control::Tsr)", "Forbidden::Bit(Control::Vtsr)"),
+    Mutant("waits.rs", "    if bit(hart.mstatus, TW) {\n        return Some(illegal(Forbidden::Bit(Control::Tw)));\n    }\n", "    if bit(hart.mstatus, TW) {\n        return Some(illegal(if mode == Mode::U { Forbidden::Instruction(\"WFI\", mode) } else { Forbidden::Bit(Control::Tw) }));\n    }\n"),
+    Mutant("waits.rs", "hfence_trap(\"HFENCE.GVMA\", mode)", "hfence_trap(\"HFENCE.VVMA\", mode)"),
+    // walk.rs
+    Mutant("walk.rs", "self.why_of_access(Rule::AccessOutside, machine.0)", "self.why_of_access(Rule::AccessOutside, self.access.address)"),
+    Mutant("walk.rs", "let why = self.why_of_entry(Rule::EntryOutside, stage, level, place);", "let why = self.why_of_stage(Rule::EntryOutside, stage, place.0);"),
+    Mutant("walk.rs", "let why = self.why_of_stage(Rule::HighBits, stage, guest.0);", "let why = self.why_of_stage(Rule::HighBits, stage, self.access.address);"),
+    Mutant("walk.rs", "Stage::Second(guest, _) => Some(guest),", "Stage::Second(guest, _) => Some(GuestPhysical(guest.0 & !7)),"),
+    Mutant("walk.rs", "Stage::Second(_, Purpose::Access) => Part::HgatpForAccess,", "Stage::Second(_, Purpose::Access) => Part::HgatpForEntry,"),
+    Mutant("walk.rs", "Stage::First if self.mode.v() => Part::Vsatp,", "Stage::First if self.hart.v == 1 => Part::Vsatp,"),
+    Mutant("walk.rs", "    if bit(entry, PTE_A) {\n        return Err(Rule::PointerWithA);\n    }\n    if bit(entry, PTE_D) {\n        return Err(Rule::PointerWithD);\n    }\n", "    if bit(entry, PTE_D) {\n        return Err(Rule::PointerWithD);\n    }\n    if bit(entry, PTE_A) {\n        return Err(Rule::PointerWithA);\n    }\n"),
+    Mutant("walk.rs", "self.first_stage_user(entry)?;\n            right_of_kind(entry, self.access.kind, self.first_stage_mxr())?;", "right_of_kind(entry, self.access.kind, self.first_stage_mxr())?;\n            self.first_stage_user(entry)?;"),
+    Mutant("walk.rs", "if field(entry, 54, 10) != 0 {\n        return Err(Rule::ReservedBits);", "if field(entry, 54, 10) != 0 {\n        return Err(Rule::NotValid);"),
+    Mutant("walk.rs", "} else if fetch && self.width != 4 {", "} else if fetch && self.width != 4 && self.address.is_multiple_of(4) {"),
+    // reasons.rs
+    Mutant("reasons.rs", "let page = address & !0xfff;", "let page = address;"),
+    Mutant("reasons.rs", "write!(text, \", level {level}\")", "write!(text, \", level {}\", 2 - level)"),
+    Mutant("reasons.rs", "Part::Vsatp => \"a load needs R, or X with vsstatus.MXR or mstatus.MXR\",", "Part::Vsatp => \"a load needs R, or X with vsstatus.MXR\","),
+    Mutant("reasons.rs", "Rule::SupervisorNeedsSum if self.part == Part::Vsatp", "Rule::SupervisorNeedsSum if self.part == Part::Satp"),
+    Mutant("reasons.rs", "10 => \"VS\",", "10 => \"HS\","),
+    Mutant("reasons.rs", "Control::Vtw => \"hstatus.VTW\"", "Control::Vtw => \"mstatus.TW\""),
+    Mutant("reasons.rs", "format!(\"{} or {last}\", words.join(\", \"))", "format!(\"{}, {last}\", words.join(\", \"))"),
+    // script.rs
+    Mutant("script.rs", "refused.or(translation.why.map(Reason::Fault))", "translation.why.map(Reason::Fault)"),
+    Mutant("script.rs", "Answer::Register(accessed) => accessed.outcome.reason,", "Answer::Register(accessed) => accessed.outcome.reason.filter(|_| false),"),
 ];
 
 fn source() -> PathBuf {
@@ -228,7 +284,7 @@ fn changed_text(mutant: &Mutant) -> String {
 
 #[test]
 fn every_mutant_still_fits_the_source() {
-    for mutant in MUTANTS {
+    for mutant in MUTANTS.iter().chain(REASONS) {
         changed_text(mutant);
     }
 }
@@ -284,39 +340,58 @@ fn changes_an_example(program: &OsString) -> bool {
     })
 }
 
-#[test]
-#[ignore = "takes minutes"]
-fn every_mutant_is_caught() {
+/// Whether a full run with a mutant's program against the library finds a difference.
+fn is_caught(mutant: &Mutant, program: &OsString, folder: &Folder, seed: u64) -> bool {
+    let first = Process::new(program, folder).unwrap().explaining("--why");
+    let second = InProcess {
+        name: "the library",
+        perform: model,
+        folder,
+    };
+    let events = FULL_RUN;
+    let Mutant(file, from, to) = mutant;
+    match compare(&first, &second, &Options { events, seed }, folder.path()) {
+        Err(Failure::Different(difference)) => {
+            let lines = difference.script.lines.len();
+            let place = difference.place;
+            println!("{file}: {from:?} -> {to:?}: script {place}, {lines} lines");
+            true
+        }
+        Err(Failure::NotRun(name, error)) => panic!("{name}: {error}"),
+        Ok(_) => {
+            println!("{file}: {from:?} -> {to:?}: MISSED");
+            false
+        }
+    }
+}
+
+/// Builds each of these and compares it; `shows` says whether an example must show it too.
+fn check(mutants: &[Mutant], shows: fn(&Mutant) -> bool) {
     let folder = Folder::new().unwrap();
     let mut missed = Vec::new();
-    for (place, mutant) in MUTANTS.iter().enumerate() {
+    for (mutant, seed) in mutants.iter().zip(1000..) {
         let program = build(mutant, &folder.path().join("mutant"));
-        let first = Process::new(&program, &folder).unwrap();
-        let second = InProcess {
-            name: "the library",
-            perform: model,
-            folder: &folder,
-        };
-        let options = Options {
-            events: FULL_RUN,
-            seed: 1000 + place as u64,
-        };
         let Mutant(file, from, to) = mutant;
-        if *file != "script.rs" && !changes_an_example(&program) {
+        if shows(mutant) && !changes_an_example(&program) {
             missed.push(format!("{file}: {from:?} -> {to:?} changes no example"));
         }
-        match compare(&first, &second, &options, folder.path()) {
-            Err(Failure::Different(difference)) => println!(
-                "{file}: {from:?} -> {to:?}: script {}, {} lines",
-                difference.place,
-                difference.script.lines.len()
-            ),
-            Err(Failure::NotRun(name, error)) => panic!("{name}: {error}"),
-            Ok(_) => {
-                println!("{file}: {from:?} -> {to:?}: MISSED");
-                missed.push(format!("{file}: {from:?} -> {to:?}"));
-            }
+        if !is_caught(mutant, &program, &folder, seed) {
+            missed.push(format!("{file}: {from:?} -> {to:?}"));
         }
     }
     assert!(missed.is_empty(), "{missed:#?}");
+}
+
+#[test]
+#[ignore = "takes minutes"]
+fn every_mutant_is_caught() {
+    check(MUTANTS, |Mutant(file, ..)| {
+        !matches!(*file, "script.rs" | "lines.rs")
+    });
+}
+
+#[test]
+#[ignore = "takes minutes"]
+fn every_mutant_of_a_reason_is_caught() {
+    check(REASONS, |_| false);
 }

@@ -1,5 +1,5 @@
-//! The comparer with real processes: the programs `cat`, `true` and `false` stand for programs that run scripts, and the
-//! second program itself is compared with itself where it has been built.
+//! The comparer with real processes: the programs `cat`, `echo`, `true` and `false` stand for programs that run scripts, and
+//! the second program itself is compared with itself where it has been built.
 
 use std::ffi::OsString;
 use std::path::Path;
@@ -21,7 +21,7 @@ fn said(output: &Output) -> String {
 #[test]
 fn two_programs_that_agree() {
     // They print the script itself: nothing is reached by the outputs, but that is asked of full runs only.
-    let output = compare(&["cat", "cat", "--events", "3000", "--seed", "5"]);
+    let output = compare(&["cat", "cat", "--events", "3000", "--seed", "5", "--answers"]);
     let text = said(&output);
     assert_eq!(output.status.code(), Some(0), "{text}");
     assert!(text.starts_with("seed 5, events 3000\n"), "{text}");
@@ -66,6 +66,7 @@ fn a_wrong_command_line() {
         &["true", "true", "--events", "x"],
         &["true", "true", "--seed", "-1"],
         &["true", "true", "--other"],
+        &["true", "true", "--options", "--why"],
         &["true", "true", "--fuzz"],
         &["true", "true", "--fuzz", "1", "--corpus"],
         &["true", "true", "--fuzz", "1", "--corpus", "no/such/folder"],
@@ -84,6 +85,59 @@ fn a_full_run_that_reaches_nothing_fails() {
     assert_eq!(output.status.code(), Some(1), "{text}");
     assert!(text.contains("not reached: refusal 4"), "{text}");
     assert!(text.contains("not reached: a list of 15 reads"), "{text}");
+    assert!(
+        text.contains("not reached: the reason \"mstatus.TW is 1\""),
+        "{text}"
+    );
+    let answers = ["--answers", "--events", "2000", "--seed", "1"];
+    let text = said(&compare(&[&["true", "true"][..], &answers].concat()));
+    assert!(text.contains("not reached: refusal 4"), "{text}");
+    assert!(!text.contains("not reached: the reason"), "{text}");
+}
+
+/// `echo` writes what it is called with.
+#[test]
+fn reasons_are_asked_for_by_options() {
+    let echo = |arguments: &[&str]| {
+        let run = ["echo", "echo", "--events", "3000", "--seed", "5"];
+        compare(&[&run, arguments].concat())
+    };
+    assert_eq!(echo(&["--answers"]).status.code(), Some(0));
+    assert_eq!(
+        echo(&["--options", "--same", "--same"]).status.code(),
+        Some(0)
+    );
+    let text = said(&echo(&[]));
+    assert!(text.contains(", with reasons)"), "{text}");
+    assert!(text.contains("    --explain"), "{text}");
+    assert!(text.contains("    --why"), "{text}");
+    let text = said(&echo(&["--options", "--one", "--other"]));
+    assert!(text.contains("    --one"), "{text}");
+    assert!(text.contains("    --other"), "{text}");
+}
+
+#[test]
+fn the_option_stands_before_the_script() {
+    let folder = Folder::new().unwrap();
+    let echo = Process::new(&OsString::from("echo"), &folder).unwrap();
+    assert!(!echo.explains());
+    let echo = echo.explaining("--why");
+    assert!(echo.explains());
+    for (explained, through_input, expected) in [
+        (false, false, "script.replay\n"),
+        (true, false, "--why script.replay\n"),
+        (true, true, "--why\n"),
+        (false, true, "\n"),
+    ] {
+        let script = Script {
+            lines: Vec::new(),
+            last_newline: false,
+            through_input,
+            explained,
+        };
+        let output = echo.run(&script).unwrap().output;
+        assert_eq!(String::from_utf8(output).unwrap(), expected);
+    }
 }
 
 #[test]
@@ -119,6 +173,7 @@ fn scripts_come_from_a_file_or_from_standard_input() {
                 lines: vec![b"one".to_vec(), b"\xff two".to_vec()],
                 last_newline,
                 through_input,
+                explained: false,
             };
             let outcome = cat.run(&script).unwrap();
             let expected: &[u8] = if last_newline {
@@ -142,7 +197,9 @@ fn the_second_program_agrees_with_its_library() {
         return;
     }
     let folder = Folder::new().unwrap();
-    let process = Process::new(&second.into_os_string(), &folder).unwrap();
+    let process = Process::new(&second.into_os_string(), &folder)
+        .unwrap()
+        .explaining("--why");
     let library = InProcess {
         name: "the library",
         perform: model,
@@ -153,7 +210,10 @@ fn the_second_program_agrees_with_its_library() {
         seed: 11,
     };
     match compare(&process, &library, &options, folder.path()) {
-        Ok(coverage) => assert!(coverage.scripts > 10),
+        Ok(coverage) => {
+            assert!(coverage.scripts > 10);
+            assert!(coverage.reasons.values().sum::<u64>() > 1000);
+        }
         Err(Failure::Different(difference)) => panic!("{difference}"),
         Err(Failure::NotRun(name, error)) => panic!("{name}: {error}"),
     }

@@ -4,8 +4,12 @@ use crate::bits::bit;
 use crate::hart::{Hart, Mode};
 use crate::registers::{after_write, find, Level, Row, HGATP, SATP, SSTATUS, TVM, VTVM};
 use crate::trap::{
-    refused, trapped, Ending, Outcome, Trap, ILLEGAL_INSTRUCTION, VIRTUAL_INSTRUCTION,
+    self, forbidden, illegal, refused, refused_hart, virtual_instruction, Control, Forbidden,
+    Outcome, Raised, Refusal,
 };
+
+/// The last number that a register could have; refusal 5 begins after it.
+pub const LAST_NUMBER: u64 = 4095;
 
 /// The four forms of access. Set and clear carry "a flag saying whether they write".
 #[derive(Clone, Copy, PartialEq, Eq, Debug)]
@@ -62,15 +66,16 @@ pub struct Accessed {
 
 /// An access to a register. Refused as 2 by the hart, as 5 by a number over 4095.
 pub fn access(hart: &Hart, number: u64, action: Action) -> Accessed {
-    let Some(mode) = hart.checked_mode() else {
-        return without_value(refused(hart, 2));
+    let mode = match hart.check() {
+        Ok(mode) => mode,
+        Err(bad) => return without_value(refused_hart(hart, bad)),
     };
-    if number > 4095 {
-        return without_value(refused(hart, 5));
+    if number > LAST_NUMBER {
+        return without_value(refused(hart, Refusal::Number(number)));
     }
     match reached(hart, mode, number, action.writes()) {
         Ok(row) => done(hart, row, action),
-        Err(cause) => without_value(trapped(hart, mode, Trap::plain(cause))),
+        Err(raised) => without_value(forbidden(hart, mode, raised)),
     }
 }
 
@@ -89,55 +94,59 @@ fn done(hart: &Hart, row: &Row, action: Action) -> Accessed {
     }
     Accessed {
         old,
-        outcome: Outcome {
-            hart: after.moved_on(),
-            ending: Ending::Done,
-        },
+        outcome: trap::done(after.moved_on()),
     }
 }
 
-/// The register that an access reaches, or the cause of its trap.
-fn reached(hart: &Hart, mode: Mode, number: u64, writes: bool) -> Result<&'static Row, u64> {
+/// The register that an access reaches, or its trap.
+fn reached(hart: &Hart, mode: Mode, number: u64, writes: bool) -> Result<&'static Row, Raised> {
     // "Unlisted number, or a write to hgeip: cause 2 in every mode."
     let Some(row) = find(number) else {
-        return Err(ILLEGAL_INSTRUCTION);
+        return Err(illegal(Forbidden::Unlisted(number)));
     };
     if row.read_only && writes {
-        return Err(ILLEGAL_INSTRUCTION);
+        return Err(illegal(Forbidden::ReadOnly(row)));
     }
     match mode {
         Mode::M => Ok(row),
         Mode::Hs => reached_from_hs(hart, row),
-        Mode::U => Err(ILLEGAL_INSTRUCTION),
+        Mode::U => Err(illegal(Forbidden::Register(row, mode))),
         Mode::Vs => reached_from_vs(hart, row),
         Mode::Vu => reached_from_vu(row),
     }
 }
 
 /// "HS all but M's"; "in HS with TVM=1, satp and hgatp give 2".
-fn reached_from_hs(hart: &Hart, row: &'static Row) -> Result<&'static Row, u64> {
+fn reached_from_hs(hart: &Hart, row: &'static Row) -> Result<&'static Row, Raised> {
+    if row.level == Level::M {
+        return Err(illegal(Forbidden::Register(row, Mode::Hs)));
+    }
     let trapped_by_tvm = row.number == SATP || row.number == HGATP;
-    if row.level == Level::M || (trapped_by_tvm && bit(hart.mstatus, TVM)) {
-        return Err(ILLEGAL_INSTRUCTION);
+    if trapped_by_tvm && bit(hart.mstatus, TVM) {
+        return Err(illegal(Forbidden::Bit(Control::Tvm)));
     }
     Ok(row)
 }
 
 /// "M's give 2. In VS an S number reaches its VS register, and satp with VTVM=1 gives 22; VS and H numbers give 22."
-fn reached_from_vs(hart: &Hart, row: &'static Row) -> Result<&'static Row, u64> {
+fn reached_from_vs(hart: &Hart, row: &'static Row) -> Result<&'static Row, Raised> {
+    let out_of_reach = Forbidden::Register(row, Mode::Vs);
     match row.level {
-        Level::M => Err(ILLEGAL_INSTRUCTION),
-        Level::S if row.number == SATP && bit(hart.hstatus, VTVM) => Err(VIRTUAL_INSTRUCTION),
-        Level::S => vs_register_of(row).ok_or(ILLEGAL_INSTRUCTION),
-        Level::Vs | Level::H => Err(VIRTUAL_INSTRUCTION),
+        Level::M => Err(illegal(out_of_reach)),
+        Level::S if row.number == SATP && bit(hart.hstatus, VTVM) => {
+            Err(virtual_instruction(Forbidden::Bit(Control::Vtvm)))
+        }
+        Level::S => vs_register_of(row).ok_or(illegal(out_of_reach)),
+        Level::Vs | Level::H => Err(virtual_instruction(out_of_reach)),
     }
 }
 
 /// "In VU all S, VS and H numbers give 22." M's give 2.
-fn reached_from_vu(row: &'static Row) -> Result<&'static Row, u64> {
+fn reached_from_vu(row: &'static Row) -> Result<&'static Row, Raised> {
+    let out_of_reach = Forbidden::Register(row, Mode::Vu);
     match row.level {
-        Level::M => Err(ILLEGAL_INSTRUCTION),
-        Level::S | Level::Vs | Level::H => Err(VIRTUAL_INSTRUCTION),
+        Level::M => Err(illegal(out_of_reach)),
+        Level::S | Level::Vs | Level::H => Err(virtual_instruction(out_of_reach)),
     }
 }
 
@@ -167,9 +176,12 @@ fn store(hart: &mut Hart, row: &Row, new: u64) {
 mod tests {
     use super::*;
     use crate::bits::with_bit;
+    use crate::hart::BadHart;
+    use crate::reasons::Reason;
     use crate::registers::{
         HEDELEG, HGEIP, HSTATUS, MEDELEG, MSTATUS, ROWS, SSCRATCH, SUM, VSATP, VSSTATUS, VSTVEC,
     };
+    use crate::trap::{Ending, Trap};
 
     const FORMS: [fn(u64) -> Action; 6] = [
         |_| Action::Read,
@@ -217,7 +229,8 @@ mod tests {
                 assert_eq!(cause(&at_edge), Some(2));
                 for number in [0x1000, 0x1100, 0x1300, 1 << 32, u64::MAX] {
                     let over = access(&hart(mode), number, form(u64::MAX));
-                    assert_eq!(over.outcome, refused(&hart(mode), 5));
+                    assert_eq!(over.outcome, refused(&hart(mode), Refusal::Number(number)));
+                    assert_eq!(over.outcome.ending, Ending::Refused(5));
                     assert_eq!(over.old, 0);
                 }
             }
@@ -229,7 +242,7 @@ mod tests {
         let bad = Hart::new(0, 3, 1);
         for number in [0x300, 0xfff, 0x1000, u64::MAX] {
             let accessed = access(&bad, number, Action::Read);
-            assert_eq!(accessed.outcome, refused(&bad, 2));
+            assert_eq!(accessed.outcome, refused_hart(&bad, BadHart::Pc(1)));
             assert_eq!(accessed.old, 0);
         }
     }
@@ -250,6 +263,10 @@ mod tests {
                         let expected = expected_cause(mode, tvm, vtvm, number, action.writes());
                         let accessed = access(&before, number, action);
                         assert_eq!(cause(&accessed), expected, "{mode:?} {number:x} {action:?}");
+                        let reason = expected.map(|_| {
+                            Reason::Forbidden(expected_rule(mode, number, action.writes()))
+                        });
+                        assert_eq!(accessed.outcome.reason, reason);
                         let after = accessed.outcome.hart;
                         match expected {
                             Some(_) => assert_eq!((after.mepc, after.pc), (0x40, 0)),
@@ -283,6 +300,19 @@ mod tests {
             Mode::Vs if vs || h => Some(22),
             Mode::Vs if vtvm && number == 0x180 => Some(22),
             Mode::Vs => None,
+        }
+    }
+
+    /// The rule of an access that traps: the bits are the last that is looked for.
+    fn expected_rule(mode: Mode, number: u64, writes: bool) -> Forbidden {
+        let Some(row) = find(number) else {
+            return Forbidden::Unlisted(number);
+        };
+        match (mode, number) {
+            (_, HGEIP) if writes => Forbidden::ReadOnly(row),
+            (Mode::Hs, SATP | HGATP) => Forbidden::Bit(Control::Tvm),
+            (Mode::Vs, SATP) => Forbidden::Bit(Control::Vtvm),
+            _ => Forbidden::Register(row, mode),
         }
     }
 

@@ -1,12 +1,13 @@
 //! Environment calls and the breakpoint.
 
 use crate::hart::{Hart, Mode};
-use crate::trap::{refused, trapped, Outcome, Trap, BREAKPOINT};
+use crate::trap::{refused_hart, trapped, Outcome, Trap, BREAKPOINT};
 
 /// ECALL: "Environment calls give 8 (U, VU), 9, 10, 11 with value 0."
 pub fn ecall(hart: &Hart) -> Outcome {
-    let Some(mode) = hart.checked_mode() else {
-        return refused(hart, 2);
+    let mode = match hart.check() {
+        Ok(mode) => mode,
+        Err(bad) => return refused_hart(hart, bad),
     };
     let cause = match mode {
         Mode::U | Mode::Vu => 8,
@@ -19,8 +20,9 @@ pub fn ecall(hart: &Hart) -> Outcome {
 
 /// EBREAK: "Breakpoint: value pc, flag = V."
 pub fn ebreak(hart: &Hart) -> Outcome {
-    let Some(mode) = hart.checked_mode() else {
-        return refused(hart, 2);
+    let mode = match hart.check() {
+        Ok(mode) => mode,
+        Err(bad) => return refused_hart(hart, bad),
     };
     let trap = Trap {
         value: hart.pc,
@@ -33,6 +35,7 @@ pub fn ebreak(hart: &Hart) -> Outcome {
 #[cfg(test)]
 mod tests {
     use super::*;
+    use crate::hart::BadHart;
     use crate::trap::{cannot_arise, Ending};
 
     fn raised(outcome: Outcome) -> Trap {
@@ -53,7 +56,8 @@ mod tests {
         ] {
             let outcome = ecall(&Hart::new(0, 0, 0x40).in_mode(mode));
             assert_eq!(raised(outcome), Trap::plain(cause));
-            assert!(!cannot_arise(mode, &raised(outcome)));
+            assert_eq!(cannot_arise(mode, &raised(outcome)), None);
+            assert_eq!(outcome.reason, None);
             assert_eq!(outcome.hart.mepc, 0x40);
             assert_eq!(outcome.hart.mcause, cause);
         }
@@ -71,14 +75,17 @@ mod tests {
                 flag: mode.v(),
             };
             assert_eq!(raised(outcome), expected);
-            assert!(!cannot_arise(mode, &expected));
+            assert_eq!(cannot_arise(mode, &expected), None);
+            assert_eq!(outcome.reason, None);
         }
     }
 
     #[test]
     fn a_hart_that_fails_check_2_is_refused() {
         let bad = Hart::new(1, 3, 0);
-        assert_eq!(ecall(&bad), refused(&bad, 2));
-        assert_eq!(ebreak(&bad), refused(&bad, 2));
+        let refused = refused_hart(&bad, BadHart::Mode(1, 3));
+        assert_eq!(refused.ending, Ending::Refused(2));
+        assert_eq!(ecall(&bad), refused);
+        assert_eq!(ebreak(&bad), refused);
     }
 }

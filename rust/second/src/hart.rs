@@ -1,7 +1,7 @@
 //! The hart: its mode, its program counter, its twenty-seven stored registers, and check 2.
 
 use crate::bits::bit;
-use crate::registers::{self, could_be_stored, MPRV, ROWS};
+use crate::registers::{self, wrong, Row, Wrong, MPRV, ROWS};
 
 /// The five modes.
 #[derive(Clone, Copy, PartialEq, Eq, Debug, PartialOrd, Ord)]
@@ -68,7 +68,20 @@ impl Mode {
     }
 }
 
-/// A hart as it comes in: any numbers. [`Hart::checked_mode`] says whether the model takes it.
+/// What makes the model refuse a hart as 2.
+#[derive(Clone, Copy, PartialEq, Eq, Debug)]
+pub enum BadHart {
+    /// V and the privilege are none of the five modes.
+    Mode(u64, u64),
+    /// A register holds what no write could store.
+    Register(&'static Row, Wrong),
+    /// pc is not a multiple of 4.
+    Pc(u64),
+    /// MPRV=1 outside M.
+    MprvOutsideM,
+}
+
+/// A hart as it comes in: any numbers. [`Hart::check`] says whether the model takes it.
 #[derive(Clone, Copy, PartialEq, Eq, Debug)]
 #[allow(missing_docs)] // The registers carry their own names.
 pub struct Hart {
@@ -184,21 +197,34 @@ impl Hart {
         }
     }
 
-    /// Check 2. The hart's mode if the model takes the hart; none where it is refused as 2: "a mode not among the five, a
+    /// Check 2: the hart's mode if the model takes the hart, or what makes it refused as 2: "a mode not among the five, a
     /// register holding what no write could store, pc not a multiple of 4, or MPRV=1 outside M".
-    pub fn checked_mode(&self) -> Option<Mode> {
-        let mode = Mode::of(self.v, self.privilege)?;
-        let passes = self.registers_could_be_stored()
-            && self.pc.is_multiple_of(4)
-            && (mode == Mode::M || !bit(self.mstatus, MPRV));
-        passes.then_some(mode)
+    pub fn check(&self) -> Result<Mode, BadHart> {
+        let Some(mode) = Mode::of(self.v, self.privilege) else {
+            return Err(BadHart::Mode(self.v, self.privilege));
+        };
+        if let Some((row, wrong)) = self.wrong_register() {
+            return Err(BadHart::Register(row, wrong));
+        }
+        if !self.pc.is_multiple_of(4) {
+            return Err(BadHart::Pc(self.pc));
+        }
+        if mode != Mode::M && bit(self.mstatus, MPRV) {
+            return Err(BadHart::MprvOutsideM);
+        }
+        Ok(mode)
     }
 
-    /// Whether every stored register holds what some write could store.
-    fn registers_could_be_stored(&self) -> bool {
-        ROWS.iter().all(|row| match self.stored(row.number) {
-            Some(content) => could_be_stored(row, content),
-            None => true,
+    /// The hart's mode; none where the hart is refused.
+    pub fn checked_mode(&self) -> Option<Mode> {
+        self.check().ok()
+    }
+
+    /// The first stored register, in rising order of number, that holds what no write could store.
+    fn wrong_register(&self) -> Option<(&'static Row, Wrong)> {
+        ROWS.iter().find_map(|row| {
+            let content = self.stored(row.number)?;
+            Some((row, wrong(row, content)?))
         })
     }
 
@@ -219,7 +245,7 @@ impl Hart {
 #[cfg(test)]
 mod tests {
     use super::*;
-    use crate::registers::{after_write, find, HGEIP, SSTATUS};
+    use crate::registers::{after_write, could_be_stored, find, HGEIP, SSTATUS};
 
     #[test]
     fn five_modes_and_no_other() {
@@ -338,6 +364,30 @@ mod tests {
             hart.mstatus |= mpp << 11;
             assert_eq!(hart.checked_mode().is_some(), mpp != 2);
         }
+    }
+
+    /// "a mode not among the five, a register holding what no write could store, pc not a multiple of 4, or MPRV=1 outside M":
+    /// with all four, they show one after the other.
+    #[test]
+    fn the_first_of_several_reasons_is_given() {
+        let mut hart = Hart::new(0, 2, 6);
+        hart.mstatus |= (1 << MPRV) | 1;
+        hart.vsatp = 1 << 60;
+        assert_eq!(hart.check(), Err(BadHart::Mode(0, 2)));
+        hart.privilege = 1;
+        let named = |hart: &Hart| match hart.check() {
+            Err(BadHart::Register(row, _)) => row.name,
+            other => panic!("no register but {other:?}"),
+        };
+        assert_eq!(named(&hart), "vsatp", "280 is before 300");
+        hart.vsatp = 0;
+        assert_eq!(named(&hart), "mstatus");
+        hart.mstatus ^= 1;
+        assert_eq!(hart.check(), Err(BadHart::Pc(6)));
+        hart.pc = 8;
+        assert_eq!(hart.check(), Err(BadHart::MprvOutsideM));
+        hart.privilege = 3;
+        assert_eq!(hart.check(), Ok(Mode::M));
     }
 
     #[test]

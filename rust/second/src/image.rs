@@ -5,9 +5,22 @@ use crate::address::Machine;
 /// The largest image that the model takes: 67,108,864 bytes.
 pub const LARGEST: u128 = 67_108_864;
 /// The largest base + length that the model takes.
-const END_LIMIT: u128 = 1 << 56;
+pub const END_LIMIT: u128 = 1 << 56;
 /// Base and length are multiples of this.
-const PAGE: u128 = 4096;
+pub const PAGE: u128 = 4096;
+
+/// What makes the model refuse an image as 1.
+#[derive(Clone, Copy, PartialEq, Eq, Debug)]
+pub enum BadImage {
+    /// "over 67,108,864 bytes": its length.
+    TooLarge(u128),
+    /// The base is not a multiple of 4096.
+    Base(u64),
+    /// The length is not a multiple of 4096.
+    Length(u128),
+    /// "base + length over 2^56": the sum.
+    End(u128),
+}
 
 /// An image: bytes from a machine address on. The model never writes it.
 #[derive(Clone, PartialEq, Eq, Debug, Default)]
@@ -24,14 +37,22 @@ impl Image {
         self.bytes.len() as u128
     }
 
-    /// Refusal 1: "image over 67,108,864 bytes, base or length not a multiple of 4096, or base + length over 2^56".
-    pub fn is_refused(&self) -> bool {
+    /// Refusal 1: "image over 67,108,864 bytes, base or length not a multiple of 4096, or base + length over 2^56". What makes
+    /// the model refuse the image, if something does.
+    pub fn refusal(&self) -> Option<BadImage> {
         let base = u128::from(self.base);
         let length = self.length();
-        length > LARGEST
-            || !base.is_multiple_of(PAGE)
-            || !length.is_multiple_of(PAGE)
-            || base + length > END_LIMIT
+        if length > LARGEST {
+            Some(BadImage::TooLarge(length))
+        } else if !base.is_multiple_of(PAGE) {
+            Some(BadImage::Base(self.base))
+        } else if !length.is_multiple_of(PAGE) {
+            Some(BadImage::Length(length))
+        } else if base + length > END_LIMIT {
+            Some(BadImage::End(base + length))
+        } else {
+            None
+        }
     }
 
     /// Whether `width` bytes from `address` on all lie in the image. Sums are of whole numbers: nothing wraps.
@@ -80,35 +101,52 @@ mod tests {
         }
     }
 
+    fn refused(base: u64, length: usize) -> bool {
+        image(base, length).refusal().is_some()
+    }
+
     #[test]
     fn refusal_1_by_length() {
-        assert!(!image(0, 0x400_0000).is_refused(), "known replay");
-        assert!(image(0, 0x400_1000).is_refused(), "known replay");
-        assert!(!image(0, 0).is_refused(), "length 0 is allowed");
+        assert!(!refused(0, 0x400_0000), "known replay");
+        assert!(refused(0, 0x400_1000), "known replay");
+        assert!(!refused(0, 0), "length 0 is allowed");
         for length in [1, 8, 4095, 4097, 0x3ff_ffff, 0x400_0001] {
-            assert!(image(0, length).is_refused(), "{length:x}");
+            assert!(refused(0, length), "{length:x}");
         }
-        assert!(!image(0, 4096).is_refused());
+        assert!(!refused(0, 4096));
     }
 
     #[test]
     fn refusal_1_by_base() {
         for base in [1, 8, 4095, 4097, (1 << 55) + 1] {
-            assert!(image(base, 4096).is_refused());
-            assert!(image(base, 0).is_refused());
+            assert!(refused(base, 4096));
+            assert!(refused(base, 0));
         }
     }
 
     #[test]
     fn refusal_1_by_end() {
         let end = 1u64 << 56;
-        assert!(!image(end - 4096, 4096).is_refused());
-        assert!(image(end - 4096, 8192).is_refused());
-        assert!(!image(end, 0).is_refused());
-        assert!(image(end, 4096).is_refused());
-        assert!(image(end + 4096, 0).is_refused());
-        assert!(image(u64::MAX - 4095, 4096).is_refused());
-        assert!(image(u64::MAX - 4095, 0).is_refused());
+        assert!(!refused(end - 4096, 4096));
+        assert!(refused(end - 4096, 8192));
+        assert!(!refused(end, 0));
+        assert!(refused(end, 4096));
+        assert!(refused(end + 4096, 0));
+        assert!(refused(u64::MAX - 4095, 4096));
+        assert!(refused(u64::MAX - 4095, 0));
+    }
+
+    #[test]
+    fn the_first_of_several_reasons_is_given() {
+        let last = u64::MAX;
+        for (base, length, reason) in [
+            (last, 0x400_0001, BadImage::TooLarge(0x400_0001)),
+            (last, 0xfff, BadImage::Base(last)),
+            (last - 0xfff, 0xfff, BadImage::Length(0xfff)),
+            (last - 0xfff, 0x3000, BadImage::End((1 << 64) + 0x2000)),
+        ] {
+            assert_eq!(image(base, length).refusal(), Some(reason));
+        }
     }
 
     #[test]

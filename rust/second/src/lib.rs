@@ -16,6 +16,8 @@
 //! | [`waits`] | WFI and the fences |
 //! | [`image`] | the image and refusal 1 |
 //! | [`walk`] | "The walk": translation of a fetch, load or store, refusal 3 |
+//! | [`reasons`] | what each rule that refused, trapped or faulted is called in words |
+//! | [`lines`] | the lines of a script, and the longest one |
 //! | [`script`] | the replay script language |
 //!
 //! Every event is a function from a hart (and what else it is given) to a hart and an answer; nothing is kept between events.
@@ -31,6 +33,8 @@ pub mod bits;
 pub mod calls;
 pub mod hart;
 pub mod image;
+pub mod lines;
+pub mod reasons;
 pub mod registers;
 pub mod returns;
 pub mod script;

@@ -325,17 +325,121 @@ fn hgatp_after_write(row: &Row, old: u64, value: u64) -> u64 {
     }
 }
 
-/// Whether some write could have stored `value` in the register of this row (part of check 2).
-pub fn could_be_stored(row: &Row, value: u64) -> bool {
-    let other_bits = value & !row.stored;
-    if other_bits != row.constant {
-        return false;
+/// A field that can't hold every value.
+#[derive(Clone, Copy, PartialEq, Eq, Debug)]
+pub struct Field {
+    /// The field's name.
+    pub name: &'static str,
+    /// Its lowest bit.
+    low: u32,
+    /// Its number of bits.
+    width: u32,
+    /// What it may hold.
+    pub allowed: &'static [u64],
+}
+
+impl Field {
+    /// What the field holds in a register's content.
+    fn of(&self, content: u64) -> u64 {
+        field(content, self.low, self.width)
     }
+
+    /// The field's bits.
+    fn mask(&self) -> u64 {
+        with_field(0, self.low, self.width, u64::MAX)
+    }
+
+    /// A field of two bits that "reads 2".
+    const fn reads_2(name: &'static str, low: u32) -> Field {
+        Field {
+            name,
+            low,
+            width: 2,
+            allowed: &[2],
+        }
+    }
+}
+
+/// mstatus: MPP is never 2, "UXL 33:32 and SXL 35:34 read 2".
+const MSTATUS_FIELDS: [Field; 3] = [
+    Field {
+        name: "MPP",
+        low: MPP_LOW,
+        width: MPP_WIDTH,
+        allowed: &[0, 1, 3],
+    },
+    Field::reads_2("UXL", 32),
+    Field::reads_2("SXL", 34),
+];
+/// sstatus shows UXL, and vsstatus holds its own.
+const SSTATUS_FIELDS: [Field; 1] = [Field::reads_2("UXL", 32)];
+/// hstatus: "VSXL 33:32 reads 2".
+const HSTATUS_FIELDS: [Field; 1] = [Field::reads_2("VSXL", 32)];
+/// satp, vsatp and hgatp: "MODE 0 or 8".
+const ATP_FIELDS: [Field; 1] = [Field {
+    name: "MODE",
+    low: MODE_LOW,
+    width: MODE_WIDTH,
+    allowed: &[BARE, SV39],
+}];
+
+/// The fields of a register that can't hold every value, from the lowest up.
+fn limited_fields(row: &Row) -> &'static [Field] {
     match row.number {
-        MSTATUS => mpp(value) != 2,
-        SATP | VSATP | HGATP => mode_is_allowed(value),
-        _ => true,
+        MSTATUS => &MSTATUS_FIELDS,
+        SSTATUS | VSSTATUS => &SSTATUS_FIELDS,
+        HSTATUS => &HSTATUS_FIELDS,
+        SATP | VSATP | HGATP => &ATP_FIELDS,
+        _ => &[],
     }
+}
+
+/// What makes a register hold what no write could store.
+#[derive(Clone, Copy, PartialEq, Eq, Debug)]
+pub enum Wrong {
+    /// A field that holds what it may not, and what it holds.
+    Field(&'static Field, u64),
+    /// A bit that is always 0 is 1.
+    Bit(u32),
+}
+
+impl Wrong {
+    /// The lowest bit that it is about.
+    fn low(self) -> u32 {
+        match self {
+            Wrong::Field(field, _) => field.low,
+            Wrong::Bit(position) => position,
+        }
+    }
+}
+
+/// Part of check 2: the lowest field or bit of a register's content that no write could have stored; none where some write
+/// could have stored it all.
+pub fn wrong(row: &Row, content: u64) -> Option<Wrong> {
+    let field = wrong_field(row, content);
+    let bit = wrong_bit(row, content);
+    field.into_iter().chain(bit).min_by_key(|wrong| wrong.low())
+}
+
+/// The lowest field that holds what it may not.
+fn wrong_field(row: &Row, content: u64) -> Option<Wrong> {
+    let fields = limited_fields(row).iter();
+    let mut held = fields.map(|field| (field, field.of(content)));
+    let (field, holds) = held.find(|(field, holds)| !field.allowed.contains(holds))?;
+    Some(Wrong::Field(field, holds))
+}
+
+/// The lowest bit outside the stored ones and these fields that is 1: "All other bits read 0."
+fn wrong_bit(row: &Row, content: u64) -> Option<Wrong> {
+    let fields = limited_fields(row).iter().map(Field::mask);
+    let others = !fields.fold(row.stored, |bits, mask| bits | mask);
+    let lowest = (content & others).trailing_zeros();
+    (lowest < u64::BITS).then_some(Wrong::Bit(lowest))
+}
+
+/// Whether some write could have stored `content` in the register of this row.
+pub fn could_be_stored(row: &Row, content: u64) -> bool {
+    wrong(row, content).is_none()
 }
 
 #[cfg(test)]
@@ -477,6 +581,44 @@ mod tests {
             assert_eq!(written(number, 0, u64::MAX), u64::MAX);
             assert!(storable(number, u64::MAX));
             assert!(storable(number, 0));
+        }
+    }
+
+    #[test]
+    fn the_lowest_wrong_field_or_bit_is_named() {
+        let found = |number, content| match wrong(find(number).unwrap(), content) {
+            Some(Wrong::Field(field, holds)) => format!("{} {holds:x}", field.name),
+            Some(Wrong::Bit(position)) => format!("bit {position}"),
+            None => "nothing".to_string(),
+        };
+        for (number, content, expected) in [
+            (MSTATUS, 0xa_0000_0000, "nothing"),
+            (MSTATUS, 0xa_0000_0004, "bit 2"),
+            (MSTATUS, 0x1000, "MPP 2"),
+            (MSTATUS, 0x1004, "bit 2"),
+            (MSTATUS, 0x3000, "MPP 2"),
+            (MSTATUS, 0x9_0000_0000, "UXL 1"),
+            (MSTATUS, 0xe_8000_0000, "bit 31"),
+            (MSTATUS, 0xe_0000_0000, "SXL 3"),
+            (MSTATUS, 0x1a_0000_0000, "bit 36"),
+            (VSSTATUS, 0, "UXL 0"),
+            (VSSTATUS, 0xa_0000_0000, "bit 35"),
+            (VSSTATUS, 0x2_0000_0008, "bit 3"),
+            (HSTATUS, 0x3_0000_0000, "VSXL 3"),
+            (HSTATUS, 0x8000_0002_0000_0000, "bit 63"),
+            (HSTATUS, 0x8000_0000_0000_0001, "bit 0"),
+            (SATP, 0x9000_0000_0000_0001, "MODE 9"),
+            (VSATP, u64::MAX, "MODE f"),
+            (HGATP, 0x1000_0000_0000_0000, "MODE 1"),
+            (HGATP, 0x1800_0000_0000_0000, "bit 59"),
+            (HGATP, u64::MAX, "bit 0"),
+            (STVEC, u64::MAX, "bit 1"),
+            (SEPC, 2, "bit 1"),
+            (HEDELEG, u64::MAX, "bit 9"),
+            (MEDELEG, !0xf0_b7ff, "bit 11"),
+            (SSCRATCH, u64::MAX, "nothing"),
+        ] {
+            assert_eq!(found(number, content), expected, "{number:x} {content:x}");
         }
     }
 

@@ -4,16 +4,19 @@ use crate::bits::{bit, with_bit};
 use crate::hart::{Hart, Mode};
 use crate::registers::{mpp, with_mpp, MIE, MPIE, MPRV, MPV, SIE, SPIE, SPP, SPV, TSR, VTSR};
 use crate::trap::{
-    refused, trapped, Ending, Outcome, Trap, ILLEGAL_INSTRUCTION, VIRTUAL_INSTRUCTION,
+    done, forbidden, illegal, refused_hart, virtual_instruction, Control, Forbidden, Outcome,
+    Raised,
 };
 
 /// MRET: "M only, else 2".
 pub fn mret(hart: &Hart) -> Outcome {
-    let Some(mode) = hart.checked_mode() else {
-        return refused(hart, 2);
+    let mode = match hart.check() {
+        Ok(mode) => mode,
+        Err(bad) => return refused_hart(hart, bad),
     };
     if mode != Mode::M {
-        return trapped(hart, mode, Trap::plain(ILLEGAL_INSTRUCTION));
+        let raised = illegal(Forbidden::Instruction("MRET", mode));
+        return forbidden(hart, mode, raised);
     }
     done(return_from_m(hart))
 }
@@ -35,23 +38,27 @@ fn return_from_m(hart: &Hart) -> Hart {
 
 /// SRET.
 pub fn sret(hart: &Hart) -> Outcome {
-    let Some(mode) = hart.checked_mode() else {
-        return refused(hart, 2);
+    let mode = match hart.check() {
+        Ok(mode) => mode,
+        Err(bad) => return refused_hart(hart, bad),
     };
-    match sret_cause(hart, mode) {
-        Some(cause) => trapped(hart, mode, Trap::plain(cause)),
+    match sret_trap(hart, mode) {
+        Some(raised) => forbidden(hart, mode, raised),
         None if mode.v() => done(return_within_guest(hart)),
         None => done(return_from_hs(hart)),
     }
 }
 
 /// "SRET with V=0: U gives 2, HS with TSR=1 gives 2"; "SRET in VU, or in VS with VTSR=1: 22".
-fn sret_cause(hart: &Hart, mode: Mode) -> Option<u64> {
+fn sret_trap(hart: &Hart, mode: Mode) -> Option<Raised> {
+    let out_of_reach = Forbidden::Instruction("SRET", mode);
     match mode {
-        Mode::U => Some(ILLEGAL_INSTRUCTION),
-        Mode::Hs if bit(hart.mstatus, TSR) => Some(ILLEGAL_INSTRUCTION),
-        Mode::Vu => Some(VIRTUAL_INSTRUCTION),
-        Mode::Vs if bit(hart.hstatus, VTSR) => Some(VIRTUAL_INSTRUCTION),
+        Mode::U => Some(illegal(out_of_reach)),
+        Mode::Hs if bit(hart.mstatus, TSR) => Some(illegal(Forbidden::Bit(Control::Tsr))),
+        Mode::Vu => Some(virtual_instruction(out_of_reach)),
+        Mode::Vs if bit(hart.hstatus, VTSR) => {
+            Some(virtual_instruction(Forbidden::Bit(Control::Vtsr)))
+        }
         Mode::Hs | Mode::M | Mode::Vs => None,
     }
 }
@@ -81,17 +88,12 @@ fn return_within_guest(hart: &Hart) -> Hart {
     after.in_mode(Mode::below_machine(true, bit(hart.vsstatus, SPP)))
 }
 
-/// A return that is done.
-fn done(hart: Hart) -> Outcome {
-    Outcome {
-        hart,
-        ending: Ending::Done,
-    }
-}
-
 #[cfg(test)]
 mod tests {
     use super::*;
+    use crate::hart::BadHart;
+    use crate::reasons::Reason;
+    use crate::trap::{Ending, Trap};
 
     fn cause(outcome: Outcome) -> Option<u64> {
         match outcome.ending {
@@ -119,7 +121,10 @@ mod tests {
     #[test]
     fn mret_outside_m_is_illegal_also_with_v() {
         for mode in [Mode::U, Mode::Hs, Mode::Vu, Mode::Vs] {
-            assert_eq!(cause(mret(&hart(mode))), Some(2));
+            let outcome = mret(&hart(mode));
+            assert_eq!(cause(outcome), Some(2));
+            let rule = Forbidden::Instruction("MRET", mode);
+            assert_eq!(outcome.reason, Some(Reason::Forbidden(rule)));
         }
     }
 
@@ -231,6 +236,13 @@ mod tests {
                     };
                     let outcome = sret(&before);
                     assert_eq!(cause(outcome), expected, "{mode:?} {tsr} {vtsr}");
+                    let rule = match mode {
+                        Mode::Hs => Forbidden::Bit(Control::Tsr),
+                        Mode::Vs => Forbidden::Bit(Control::Vtsr),
+                        _ => Forbidden::Instruction("SRET", mode),
+                    };
+                    let reason = expected.map(|_| Reason::Forbidden(rule));
+                    assert_eq!(outcome.reason, reason);
                     if expected.is_some() {
                         assert_eq!(outcome.hart.mepc, 0x40);
                     }
@@ -243,7 +255,8 @@ mod tests {
     fn a_hart_that_fails_check_2_is_refused() {
         let mut bad = hart(Mode::Hs);
         bad.mstatus |= 1 << 17;
-        assert_eq!(mret(&bad), refused(&bad, 2));
-        assert_eq!(sret(&bad), refused(&bad, 2));
+        let refused = refused_hart(&bad, BadHart::MprvOutsideM);
+        assert_eq!(mret(&bad), refused);
+        assert_eq!(sret(&bad), refused);
     }
 }

@@ -1,10 +1,10 @@
 //! The replay script language: reading a line, performing it, writing its answer.
 //!
-//! The three steps are separate functions ([`parse`], [`Session::perform`], [`write_answer`]) and [`run`] puts them together.
+//! The three steps are separate functions ([`parse`], [`Session::perform`], [`Writing::write`]) and [`run`] puts them together.
 //! Lines are bytes, not characters: what is not UTF-8 is an ordinary byte.
 
 use std::fs::File;
-use std::io::{self, BufRead, Read, Write};
+use std::io::{self, Read, Write};
 use std::path::PathBuf;
 
 use crate::access::{access, Accessed, Action};
@@ -12,6 +12,8 @@ use crate::address::Machine;
 use crate::calls::{ebreak, ecall};
 use crate::hart::Hart;
 use crate::image::Image;
+use crate::lines::Lines;
+use crate::reasons::Reason;
 use crate::registers::ROWS;
 use crate::returns::{mret, sret};
 use crate::trap::{request, Ending, Outcome, Trap};
@@ -112,6 +114,21 @@ pub enum Answer {
     Event(Outcome),
     /// `show`
     Hart(Hart),
+}
+
+impl Answer {
+    /// Why it is a refusal, a fault, or a trap by a rule.
+    pub fn reason(&self) -> Option<Reason> {
+        match self {
+            Answer::Nothing | Answer::Hart(_) => None,
+            Answer::Translation(translation) => {
+                let refused = translation.refusal.map(Reason::Refused);
+                refused.or(translation.why.map(Reason::Fault))
+            }
+            Answer::Register(accessed) => accessed.outcome.reason,
+            Answer::Event(outcome) => outcome.reason,
+        }
+    }
 }
 
 /// Why a line is bad: a sentence.
@@ -469,7 +486,7 @@ fn path_of(bytes: &[u8]) -> PathBuf {
 // Writing an answer.
 
 /// Writes the answer of a line.
-pub fn write_answer<W: Write>(output: &mut W, answer: &Answer) -> io::Result<()> {
+fn write_answer<W: Write>(output: &mut W, answer: &Answer) -> io::Result<()> {
     match answer {
         Answer::Nothing => Ok(()),
         Answer::Translation(translation) => write_translation(output, translation),
@@ -482,6 +499,14 @@ pub fn write_answer<W: Write>(output: &mut W, answer: &Answer) -> io::Result<()>
             Ending::Trapped(..) | Ending::Done => writeln!(output, "ok"),
         },
         Answer::Hart(hart) => write_hart(output, hart),
+    }
+}
+
+/// Writes the reason of an answer that has one.
+fn write_reason<W: Write>(output: &mut W, answer: &Answer) -> io::Result<()> {
+    match answer.reason() {
+        Some(reason) => writeln!(output, "# why: {reason}"),
+        None => Ok(()),
     }
 }
 
@@ -550,27 +575,58 @@ pub enum Trouble {
     Output(io::Error),
 }
 
+/// What a run writes.
+#[derive(Clone, Copy, PartialEq, Eq, Debug)]
+pub enum Writing {
+    /// The answers.
+    Answers,
+    /// The answers, each with its reason where it has one.
+    Reasons,
+}
+
+impl Writing {
+    /// Writes what there is to write about one answer.
+    pub fn write<W: Write>(self, output: &mut W, answer: &Answer) -> io::Result<()> {
+        write_answer(output, answer)?;
+        match self {
+            Writing::Answers => Ok(()),
+            Writing::Reasons => write_reason(output, answer),
+        }
+    }
+}
+
 /// Runs a script: reads it from `input` and writes its answers to `output`.
-pub fn run<R: BufRead, W: Write>(
+pub fn run<R: Read, W: Write>(
     session: &mut Session,
-    input: &mut R,
+    writing: Writing,
+    input: R,
     output: &mut W,
 ) -> Result<End, Trouble> {
+    run_by(Session::perform, session, writing, input, output)
+}
+
+/// What is done with a line: [`Session::perform`], or an altered copy of it.
+pub type Perform = fn(&mut Session, &Line) -> Result<Answer, Bad>;
+
+/// Runs a script with `perform` for its lines. An answer does not wait for the next line: before the input is asked for more,
+/// what has been answered is written out.
+pub fn run_by<R: Read, W: Write>(
+    perform: Perform,
+    session: &mut Session,
+    writing: Writing,
+    input: R,
+    output: &mut W,
+) -> Result<End, Trouble> {
+    let mut lines = Lines::new(input);
     let mut number = 0u64;
-    let mut buffer = Vec::new();
     loop {
-        buffer.clear();
-        let length = input
-            .read_until(b'\n', &mut buffer)
-            .map_err(Trouble::Input)?;
-        if length == 0 {
+        let Some(line) = lines.next(|| output.flush())? else {
             output.flush().map_err(Trouble::Output)?;
             return Ok(End::Whole);
-        }
+        };
         number = number.wrapping_add(1);
-        let line = buffer.strip_suffix(b"\n").unwrap_or(&buffer);
-        match run_line(session, line) {
-            Ok(answer) => write_answer(output, &answer).map_err(Trouble::Output)?,
+        match line.and_then(|line| run_line(perform, session, line)) {
+            Ok(answer) => writing.write(output, &answer).map_err(Trouble::Output)?,
             Err(Bad(reason)) => {
                 writeln!(output, "error {number:x}").map_err(Trouble::Output)?;
                 output.flush().map_err(Trouble::Output)?;
@@ -584,9 +640,9 @@ pub fn run<R: BufRead, W: Write>(
 }
 
 /// Reads and performs one line.
-pub fn run_line(session: &mut Session, line: &[u8]) -> Result<Answer, Bad> {
+pub fn run_line(perform: Perform, session: &mut Session, line: &[u8]) -> Result<Answer, Bad> {
     match parse(line)? {
-        Some(line) => session.perform(&line),
+        Some(line) => perform(session, &line),
         None => Ok(Answer::Nothing),
     }
 }

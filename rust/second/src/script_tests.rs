@@ -6,7 +6,13 @@ use super::*;
 fn run_script(script: &[u8]) -> (String, Option<u64>) {
     let mut session = Session::new(PathBuf::new());
     let mut output = Vec::new();
-    let end = run(&mut session, &mut &script[..], &mut output).unwrap();
+    let end = run(
+        &mut session,
+        Writing::Answers,
+        &mut &script[..],
+        &mut output,
+    )
+    .unwrap();
     let line = match end {
         End::Whole => None,
         End::Bad { line, reason } => {
@@ -261,7 +267,13 @@ fn files() {
     let mut session = Session::new(folder.clone());
     let mut output = Vec::new();
     let script = b"file 2000 \t a # name \r\nload 2000 8\nload 3000 1\nfile 0 missing\n";
-    let end = run(&mut session, &mut &script[..], &mut output).unwrap();
+    let end = run(
+        &mut session,
+        Writing::Answers,
+        &mut &script[..],
+        &mut output,
+    )
+    .unwrap();
     assert_eq!(session.image.bytes, vec![0x11; 4096]);
     assert_eq!(session.image.base, 0x2000);
     assert!(matches!(end, End::Bad { line: 4, .. }));
@@ -322,6 +334,11 @@ fn a_closed_output_is_told() {
         }
     }
     let mut session = Session::new(PathBuf::new());
-    let trouble = run(&mut session, &mut &b"wfi\n"[..], &mut Closed);
+    let trouble = run(
+        &mut session,
+        Writing::Answers,
+        &mut &b"wfi\n"[..],
+        &mut Closed,
+    );
     assert!(matches!(trouble, Err(Trouble::Output(_))));
 }

@@ -1,10 +1,13 @@
-//! Trap requests (refusal 4) and "Delivery".
+//! How events end, trap requests (refusal 4) and "Delivery".
 
 use crate::bits::{bit, with_bit};
-use crate::hart::{Hart, Mode};
+use crate::hart::{BadHart, Hart, Mode};
+use crate::image::BadImage;
+use crate::reasons::Reason;
 use crate::registers::{
-    with_mpp, HSTATUS_GVA, MIE, MPIE, MPV, MSTATUS_GVA, SIE, SPIE, SPP, SPV, SPVP,
+    with_mpp, Row, HSTATUS_GVA, MIE, MPIE, MPV, MSTATUS_GVA, SIE, SPIE, SPP, SPV, SPVP,
 };
+use crate::walk::BadAccess;
 
 /// Cause 2, illegal instruction.
 pub const ILLEGAL_INSTRUCTION: u64 = 2;
@@ -50,6 +53,82 @@ pub enum Target {
     Vs,
 }
 
+/// Why the model says no.
+#[derive(Clone, Copy, PartialEq, Eq, Debug)]
+pub enum Refusal {
+    /// 1: the image.
+    Image(BadImage),
+    /// 2: the hart.
+    Hart(BadHart),
+    /// 3: the access of a translation.
+    Access(BadAccess),
+    /// 4: "a trap request that can't arise".
+    Request(BadRequest),
+    /// 5: "register number over 4095".
+    Number(u64),
+}
+
+impl Refusal {
+    /// The number of the refusal.
+    pub fn number(&self) -> u64 {
+        match self {
+            Refusal::Image(_) => 1,
+            Refusal::Hart(_) => 2,
+            Refusal::Access(_) => 3,
+            Refusal::Request(_) => 4,
+            Refusal::Number(_) => 5,
+        }
+    }
+}
+
+/// A rule by which an access to a register, a return, WFI or a fence traps.
+#[derive(Clone, Copy, PartialEq, Eq, Debug)]
+pub enum Forbidden {
+    /// No register has this number.
+    Unlisted(u64),
+    /// A write to a register that is read-only.
+    ReadOnly(&'static Row),
+    /// The mode does not reach the register.
+    Register(&'static Row, Mode),
+    /// The mode does not reach the instruction with this name.
+    Instruction(&'static str, Mode),
+    /// A bit that makes what the mode reaches trap.
+    Bit(Control),
+}
+
+/// The bits that make what a mode reaches trap.
+#[derive(Clone, Copy, PartialEq, Eq, Debug)]
+#[allow(missing_docs)] // The bits carry their own names.
+pub enum Control {
+    Tvm,
+    Tw,
+    Tsr,
+    Vtvm,
+    Vtw,
+    Vtsr,
+}
+
+/// A trap that the model raises by such a rule: its cause (2 or 22) and the rule.
+#[derive(Clone, Copy, PartialEq, Eq, Debug)]
+pub struct Raised {
+    /// The cause.
+    pub cause: u64,
+    /// The rule.
+    pub rule: Forbidden,
+}
+
+/// A trap with cause 2.
+pub fn illegal(rule: Forbidden) -> Raised {
+    let cause = ILLEGAL_INSTRUCTION;
+    Raised { cause, rule }
+}
+
+/// A trap with cause 22.
+pub fn virtual_instruction(rule: Forbidden) -> Raised {
+    let cause = VIRTUAL_INSTRUCTION;
+    Raised { cause, rule }
+}
+
 /// How an event ended.
 #[derive(Clone, Copy, PartialEq, Eq, Debug)]
 pub enum Ending {
@@ -68,14 +147,22 @@ pub struct Outcome {
     pub hart: Hart,
     /// How the event ended.
     pub ending: Ending,
+    /// Why it was refused, or trapped by a rule.
+    pub reason: Option<Reason>,
 }
 
 /// A refused event: the hart as given.
-pub fn refused(hart: &Hart, number: u64) -> Outcome {
+pub fn refused(hart: &Hart, refusal: Refusal) -> Outcome {
     Outcome {
         hart: *hart,
-        ending: Ending::Refused(number),
+        ending: Ending::Refused(refusal.number()),
+        reason: Some(Reason::Refused(refusal)),
     }
+}
+
+/// An event that fails check 2.
+pub fn refused_hart(hart: &Hart, bad: BadHart) -> Outcome {
+    refused(hart, Refusal::Hart(bad))
 }
 
 /// An event that traps: "delivers at once".
@@ -84,36 +171,81 @@ pub fn trapped(hart: &Hart, mode: Mode, trap: Trap) -> Outcome {
     Outcome {
         hart,
         ending: Ending::Trapped(trap, target),
+        reason: None,
+    }
+}
+
+/// An event that traps with cause 2 or 22 by a rule.
+pub fn forbidden(hart: &Hart, mode: Mode, raised: Raised) -> Outcome {
+    Outcome {
+        reason: Some(Reason::Forbidden(raised.rule)),
+        ..trapped(hart, mode, Trap::plain(raised.cause))
+    }
+}
+
+/// An event that is done, and the hart after it.
+pub fn done(hart: Hart) -> Outcome {
+    Outcome {
+        hart,
+        ending: Ending::Done,
+        reason: None,
     }
 }
 
 /// An instruction that is done and only moves pc on.
 pub fn only_moves_on(hart: &Hart) -> Outcome {
-    Outcome {
-        hart: hart.moved_on(),
-        ending: Ending::Done,
-    }
+    done(hart.moved_on())
 }
 
 /// A trap request. Refused as 2 by the hart, as 4 if it cannot arise; otherwise delivered.
 pub fn request(hart: &Hart, trap: &Trap) -> Outcome {
-    let Some(mode) = hart.checked_mode() else {
-        return refused(hart, 2);
+    let mode = match hart.check() {
+        Ok(mode) => mode,
+        Err(bad) => return refused_hart(hart, bad),
     };
-    if cannot_arise(mode, trap) {
-        return refused(hart, 4);
+    match cannot_arise(mode, trap) {
+        Some(bad) => refused(hart, Refusal::Request(bad)),
+        None => trapped(hart, mode, *trap),
     }
-    trapped(hart, mode, *trap)
 }
 
-/// Refusal 4: whether a hart in this mode can't have this trap.
-pub fn cannot_arise(mode: Mode, trap: &Trap) -> bool {
-    cause_unknown(trap)
-        || environment_call_from_elsewhere(mode, trap)
-        || virtual_instruction_without_v(mode, trap)
-        || environment_call_with_value(trap)
-        || second_value_or_word_without_guest_page_fault(trap)
-        || flag_wrong(mode, trap)
+/// What makes a trap request one that can't arise. Each carries the cause.
+#[derive(Clone, Copy, PartialEq, Eq, Debug)]
+pub enum BadRequest {
+    /// There is no such cause.
+    Cause(u64),
+    /// An environment call from another mode than its own.
+    FromElsewhere(u64),
+    /// Cause 22 with V=0.
+    WithoutV(u64),
+    /// An environment call with this value.
+    Value(u64, u64),
+    /// A second value that the cause doesn't have.
+    SecondValue(u64),
+    /// An instruction word that the cause doesn't have.
+    Word(u64),
+    /// The flag is set and may not be.
+    FlagSet(u64),
+    /// The flag is clear and may not be.
+    FlagClear(u64),
+    /// The flag is clear and may not be with V=1.
+    FlagClearWithV(u64),
+}
+
+/// Refusal 4: why a hart in this mode can't have this trap, if it can't.
+pub fn cannot_arise(mode: Mode, trap: &Trap) -> Option<BadRequest> {
+    let cause = trap.cause;
+    if cause_unknown(trap) {
+        Some(BadRequest::Cause(cause))
+    } else if environment_call_from_elsewhere(mode, trap) {
+        Some(BadRequest::FromElsewhere(cause))
+    } else if virtual_instruction_without_v(mode, trap) {
+        Some(BadRequest::WithoutV(cause))
+    } else if environment_call_with_value(trap) {
+        Some(BadRequest::Value(cause, trap.value))
+    } else {
+        second_value_or_word(trap).or_else(|| flag_wrong(mode, trap))
+    }
 }
 
 /// "cause not in 0-13, 15, 20-23".
@@ -143,16 +275,25 @@ fn environment_call_with_value(trap: &Trap) -> bool {
 }
 
 /// "second value or instruction word nonzero unless cause 20, 21, 23".
-fn second_value_or_word_without_guest_page_fault(trap: &Trap) -> bool {
-    !matches!(trap.cause, 20 | 21 | 23) && (trap.second != 0 || trap.word != 0)
+fn second_value_or_word(trap: &Trap) -> Option<BadRequest> {
+    if matches!(trap.cause, 20 | 21 | 23) {
+        None
+    } else if trap.second != 0 {
+        Some(BadRequest::SecondValue(trap.cause))
+    } else if trap.word != 0 {
+        Some(BadRequest::Word(trap.cause))
+    } else {
+        None
+    }
 }
 
 /// "guest-address flag set for 2, 8-11, 22, or clear for 20, 21, 23, or clear with V=1 for any other cause".
-fn flag_wrong(mode: Mode, trap: &Trap) -> bool {
-    match trap.cause {
-        2 | 8..=11 | 22 => trap.flag,
-        20 | 21 | 23 => !trap.flag,
-        _ => mode.v() && !trap.flag,
+fn flag_wrong(mode: Mode, trap: &Trap) -> Option<BadRequest> {
+    let cause = trap.cause;
+    match cause {
+        2 | 8..=11 | 22 => trap.flag.then_some(BadRequest::FlagSet(cause)),
+        20 | 21 | 23 => (!trap.flag).then_some(BadRequest::FlagClear(cause)),
+        _ => (mode.v() && !trap.flag).then_some(BadRequest::FlagClearWithV(cause)),
     }
 }
 

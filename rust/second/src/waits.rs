@@ -4,81 +4,90 @@ use crate::bits::bit;
 use crate::hart::{Hart, Mode};
 use crate::registers::{TVM, TW, VTVM, VTW};
 use crate::trap::{
-    only_moves_on, refused, trapped, Outcome, Trap, ILLEGAL_INSTRUCTION, VIRTUAL_INSTRUCTION,
+    forbidden, illegal, only_moves_on, refused_hart, virtual_instruction, Control, Forbidden,
+    Outcome, Raised,
 };
 
 /// WFI.
 pub fn wfi(hart: &Hart) -> Outcome {
-    wait_or_fence(hart, wfi_cause)
+    wait_or_fence(hart, wfi_trap)
 }
 
 /// SFENCE.VMA.
 pub fn sfence_vma(hart: &Hart) -> Outcome {
-    wait_or_fence(hart, sfence_vma_cause)
+    wait_or_fence(hart, sfence_vma_trap)
 }
 
 /// HFENCE.VVMA.
 pub fn hfence_vvma(hart: &Hart) -> Outcome {
-    wait_or_fence(hart, hfence_vvma_cause)
+    wait_or_fence(hart, |_, mode| hfence_trap("HFENCE.VVMA", mode))
 }
 
 /// HFENCE.GVMA.
 pub fn hfence_gvma(hart: &Hart) -> Outcome {
-    wait_or_fence(hart, hfence_gvma_cause)
+    wait_or_fence(hart, hfence_gvma_trap)
 }
 
 /// The common part: check 2, then the trap that the instruction's own rule gives, else pc moves on.
-fn wait_or_fence(hart: &Hart, cause: fn(&Hart, Mode) -> Option<u64>) -> Outcome {
-    let Some(mode) = hart.checked_mode() else {
-        return refused(hart, 2);
+fn wait_or_fence(hart: &Hart, trap: fn(&Hart, Mode) -> Option<Raised>) -> Outcome {
+    let mode = match hart.check() {
+        Ok(mode) => mode,
+        Err(bad) => return refused_hart(hart, bad),
     };
-    match cause(hart, mode) {
-        Some(cause) => trapped(hart, mode, Trap::plain(cause)),
+    match trap(hart, mode) {
+        Some(raised) => forbidden(hart, mode, raised),
         None => only_moves_on(hart),
     }
 }
 
 /// "WFI: M goes on; TW=1 elsewhere gives 2; then U gives 2, VU gives 22, VS gives 22 if VTW=1."
-fn wfi_cause(hart: &Hart, mode: Mode) -> Option<u64> {
+fn wfi_trap(hart: &Hart, mode: Mode) -> Option<Raised> {
     if mode == Mode::M {
         return None;
     }
     if bit(hart.mstatus, TW) {
-        return Some(ILLEGAL_INSTRUCTION);
+        return Some(illegal(Forbidden::Bit(Control::Tw)));
     }
+    let out_of_reach = Forbidden::Instruction("WFI", mode);
     match mode {
-        Mode::U => Some(ILLEGAL_INSTRUCTION),
-        Mode::Vu => Some(VIRTUAL_INSTRUCTION),
-        Mode::Vs if bit(hart.hstatus, VTW) => Some(VIRTUAL_INSTRUCTION),
+        Mode::U => Some(illegal(out_of_reach)),
+        Mode::Vu => Some(virtual_instruction(out_of_reach)),
+        Mode::Vs if bit(hart.hstatus, VTW) => {
+            Some(virtual_instruction(Forbidden::Bit(Control::Vtw)))
+        }
         Mode::Vs | Mode::Hs | Mode::M => None,
     }
 }
 
 /// "SFENCE.VMA: U 2; HS with TVM=1 2; VU 22; VS with VTVM=1 22."
-fn sfence_vma_cause(hart: &Hart, mode: Mode) -> Option<u64> {
+fn sfence_vma_trap(hart: &Hart, mode: Mode) -> Option<Raised> {
+    let out_of_reach = Forbidden::Instruction("SFENCE.VMA", mode);
     match mode {
-        Mode::U => Some(ILLEGAL_INSTRUCTION),
-        Mode::Hs if bit(hart.mstatus, TVM) => Some(ILLEGAL_INSTRUCTION),
-        Mode::Vu => Some(VIRTUAL_INSTRUCTION),
-        Mode::Vs if bit(hart.hstatus, VTVM) => Some(VIRTUAL_INSTRUCTION),
+        Mode::U => Some(illegal(out_of_reach)),
+        Mode::Hs if bit(hart.mstatus, TVM) => Some(illegal(Forbidden::Bit(Control::Tvm))),
+        Mode::Vu => Some(virtual_instruction(out_of_reach)),
+        Mode::Vs if bit(hart.hstatus, VTVM) => {
+            Some(virtual_instruction(Forbidden::Bit(Control::Vtvm)))
+        }
         Mode::Hs | Mode::M | Mode::Vs => None,
     }
 }
 
 /// "HFENCE.VVMA and HFENCE.GVMA: U 2; V=1 always 22".
-fn hfence_vvma_cause(_hart: &Hart, mode: Mode) -> Option<u64> {
+fn hfence_trap(name: &'static str, mode: Mode) -> Option<Raised> {
+    let out_of_reach = Forbidden::Instruction(name, mode);
     match mode {
-        Mode::U => Some(ILLEGAL_INSTRUCTION),
-        Mode::Vu | Mode::Vs => Some(VIRTUAL_INSTRUCTION),
+        Mode::U => Some(illegal(out_of_reach)),
+        Mode::Vu | Mode::Vs => Some(virtual_instruction(out_of_reach)),
         Mode::Hs | Mode::M => None,
     }
 }
 
-/// As HFENCE.VVMA, and "GVMA in HS with TVM=1 2".
-fn hfence_gvma_cause(hart: &Hart, mode: Mode) -> Option<u64> {
+/// "GVMA in HS with TVM=1 2".
+fn hfence_gvma_trap(hart: &Hart, mode: Mode) -> Option<Raised> {
     match mode {
-        Mode::Hs if bit(hart.mstatus, TVM) => Some(ILLEGAL_INSTRUCTION),
-        _ => hfence_vvma_cause(hart, mode),
+        Mode::Hs if bit(hart.mstatus, TVM) => Some(illegal(Forbidden::Bit(Control::Tvm))),
+        _ => hfence_trap("HFENCE.GVMA", mode),
     }
 }
 
@@ -86,10 +95,22 @@ fn hfence_gvma_cause(hart: &Hart, mode: Mode) -> Option<u64> {
 mod tests {
     use super::*;
     use crate::bits::with_bit;
-    use crate::trap::Ending;
+    use crate::hart::BadHart;
+    use crate::reasons::Reason;
+    use crate::trap::{Ending, Trap};
 
-    /// Runs one of them in every mode with every setting of the four trap bits and compares the cause.
-    fn check(event: fn(&Hart) -> Outcome, expected: fn(Mode, [bool; 4]) -> Option<u64>) {
+    /// The bits that the four may trap by, in the order of a setting.
+    const BITS: [Control; 4] = [Control::Tvm, Control::Tw, Control::Vtvm, Control::Vtw];
+
+    /// A trap: its cause, and the place in the setting of the bit that it is by.
+    type Expected = Option<(u64, Option<usize>)>;
+
+    /// Runs one of them in every mode with every setting of the four trap bits and compares the cause and the reason.
+    fn check(
+        name: &'static str,
+        event: fn(&Hart) -> Outcome,
+        expected: fn(Mode, [bool; 4]) -> Expected,
+    ) {
         for mode in Mode::ALL {
             for setting in 0..16u32 {
                 let [tvm, tw, vtvm, vtw] = [0, 1, 2, 3].map(|at| (setting >> at) & 1 == 1);
@@ -100,8 +121,13 @@ mod tests {
                 before.hstatus = with_bit(before.hstatus, VTW, vtw);
                 let outcome = event(&before);
                 match expected(mode, [tvm, tw, vtvm, vtw]) {
-                    Some(cause) => {
+                    Some((cause, bit)) => {
                         let trap = Trap::plain(cause);
+                        let rule = match bit {
+                            Some(place) => Forbidden::Bit(BITS[place]),
+                            None => Forbidden::Instruction(name, mode),
+                        };
+                        assert_eq!(outcome.reason, Some(Reason::Forbidden(rule)));
                         assert!(
                             matches!(outcome.ending, Ending::Trapped(raised, _) if raised == trap)
                         );
@@ -110,55 +136,64 @@ mod tests {
                     None => {
                         assert_eq!(outcome.ending, Ending::Done, "{mode:?} {setting:b}");
                         assert_eq!(outcome.hart, before.moved_on());
+                        assert_eq!(outcome.reason, None);
                     }
                 }
             }
         }
         let bad = Hart::new(0, 2, 0);
-        assert_eq!(event(&bad), refused(&bad, 2));
+        assert_eq!(event(&bad), refused_hart(&bad, BadHart::Mode(0, 2)));
         let last = Hart::new(0, 3, u64::MAX - 3);
         assert_eq!(event(&last).hart.pc, 0);
     }
 
     #[test]
     fn wfi_in_every_mode() {
-        check(wfi, |mode, [_, tw, _, vtw]| match mode {
+        check("WFI", wfi, |mode, [_, tw, _, vtw]| match mode {
             Mode::M => None,
-            _ if tw => Some(2),
-            Mode::U => Some(2),
-            Mode::Vu => Some(22),
-            Mode::Vs => vtw.then_some(22),
+            _ if tw => Some((2, Some(1))),
+            Mode::U => Some((2, None)),
+            Mode::Vu => Some((22, None)),
+            Mode::Vs => vtw.then_some((22, Some(3))),
             Mode::Hs => None,
         });
     }
 
     #[test]
     fn sfence_vma_in_every_mode() {
-        check(sfence_vma, |mode, [tvm, _, vtvm, _]| match mode {
-            Mode::M => None,
-            Mode::U => Some(2),
-            Mode::Hs => tvm.then_some(2),
-            Mode::Vu => Some(22),
-            Mode::Vs => vtvm.then_some(22),
-        });
+        check(
+            "SFENCE.VMA",
+            sfence_vma,
+            |mode, [tvm, _, vtvm, _]| match mode {
+                Mode::M => None,
+                Mode::U => Some((2, None)),
+                Mode::Hs => tvm.then_some((2, Some(0))),
+                Mode::Vu => Some((22, None)),
+                Mode::Vs => vtvm.then_some((22, Some(2))),
+            },
+        );
     }
 
     #[test]
     fn hfence_vvma_in_every_mode() {
-        check(hfence_vvma, |mode, _| match mode {
+        check("HFENCE.VVMA", hfence_vvma, |mode, _| match mode {
             Mode::M | Mode::Hs => None,
-            Mode::U => Some(2),
-            Mode::Vu | Mode::Vs => Some(22),
+            Mode::U => Some((2, None)),
+            Mode::Vu | Mode::Vs => Some((22, None)),
         });
     }
 
     #[test]
     fn hfence_gvma_in_every_mode() {
-        check(hfence_gvma, |mode, [tvm, _, _, _]| match mode {
-            Mode::M => None,
-            Mode::Hs => tvm.then_some(2),
-            Mode::U => Some(2),
-            Mode::Vu | Mode::Vs => Some(22),
-        });
+        check(
+            "HFENCE.GVMA",
+            hfence_gvma,
+            |mode, [tvm, _, _, _]| match mode {
+                Mode::M => None,
+                Mode::Hs => tvm.then_some((2, Some(0))),
+                Mode::U => Some((2, None)),
+                Mode::Vu | Mode::Vs => Some((22, None)),
+            },
+        );
     }
 }

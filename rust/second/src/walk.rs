@@ -1,14 +1,14 @@
 //! "The walk": translation of a fetch, a load or a store through the first stage (Sv39) and the second stage (Sv39x4).
 //!
 //! A translation never changes the hart. It answers an address, a refusal number or a fault, and the list of the entries that
-//! it read. Beside that it says which rule ended it ([`Why`]); no answer shows this, the comparer counts by it.
+//! it read. Beside that it says why: which rule ended it ([`Why`]), or what made it refused.
 
 use crate::address::{GuestPhysical, Machine};
 use crate::bits::{bit, field, low_ones};
 use crate::hart::{Hart, Mode};
 use crate::image::Image;
 use crate::registers::{atp_mode, atp_ppn, mpp, BARE, MPRV, MPV, MXR, SUM};
-use crate::trap::Trap;
+use crate::trap::{Refusal, Trap};
 
 /// Fetch, load or store.
 #[derive(Clone, Copy, PartialEq, Eq, Debug, PartialOrd, Ord)]
@@ -62,18 +62,36 @@ pub struct Access {
 }
 
 impl Access {
-    /// Refusal 3: "width not 1, 2, 4 or 8; a fetch whose width isn't 4 or whose address isn't a multiple of 4".
-    pub fn is_refused(&self) -> bool {
-        let unknown_width = !matches!(self.width, 1 | 2 | 4 | 8);
-        let bad_fetch =
-            self.kind == Kind::Fetch && (self.width != 4 || !self.address.is_multiple_of(4));
-        unknown_width || bad_fetch
+    /// Refusal 3: "width not 1, 2, 4 or 8; a fetch whose width isn't 4 or whose address isn't a multiple of 4". What makes the
+    /// model refuse the access, if something does.
+    pub fn refusal(&self) -> Option<BadAccess> {
+        let fetch = self.kind == Kind::Fetch;
+        if !matches!(self.width, 1 | 2 | 4 | 8) {
+            Some(BadAccess::Width(self.width))
+        } else if fetch && self.width != 4 {
+            Some(BadAccess::FetchWidth(self.width))
+        } else if fetch && !self.address.is_multiple_of(4) {
+            Some(BadAccess::FetchAddress(self.address))
+        } else {
+            None
+        }
     }
 
     /// Whether the address is not a multiple of the width (which is 1, 2, 4 or 8).
     fn is_misaligned(&self) -> bool {
         !self.address.is_multiple_of(self.width)
     }
+}
+
+/// What makes the model refuse an access as 3.
+#[derive(Clone, Copy, PartialEq, Eq, Debug)]
+pub enum BadAccess {
+    /// The width is none of 1, 2, 4 and 8.
+    Width(u64),
+    /// The width of a fetch isn't 4.
+    FetchWidth(u64),
+    /// The address of a fetch isn't a multiple of 4.
+    FetchAddress(u64),
 }
 
 /// One item of the list of reads.
@@ -188,7 +206,7 @@ pub enum Part {
 }
 
 /// Why a walk ended with a fault.
-#[derive(Clone, Copy, PartialEq, Eq, Debug, PartialOrd, Ord)]
+#[derive(Clone, Copy, PartialEq, Eq, Debug)]
 pub struct Why {
     /// The rule.
     pub rule: Rule,
@@ -196,6 +214,22 @@ pub struct Why {
     pub part: Part,
     /// The level of the entry, for rules about an entry.
     pub level: Option<u64>,
+    /// What the rule is about: the address with wrong low or high bits, the entry's machine address, or the access's.
+    pub address: u64,
+    /// The width of the access.
+    pub width: u64,
+    /// What the second stage was on the way to, for its two parts.
+    pub guest: Option<GuestPhysical>,
+}
+
+/// What a fault is counted by: its rule, its part and its level.
+pub type Key = (Rule, Part, Option<u64>);
+
+impl Why {
+    /// What it is counted by.
+    pub fn key(&self) -> Key {
+        (self.rule, self.part, self.level)
+    }
 }
 
 /// What a translation gives.
@@ -207,19 +241,22 @@ pub struct Translation {
     pub list: List,
     /// Why it ended with a fault.
     pub why: Option<Why>,
+    /// Why it was refused.
+    pub refusal: Option<Refusal>,
 }
 
 /// A translation. "Order: 2, then 1, then the call's own", which is 3. "A refused access answers its number [...] with the
 /// list empty."
 pub fn translate(hart: &Hart, image: &Image, access: &Access) -> Translation {
-    let Some(mode) = hart.checked_mode() else {
-        return refused(2);
+    let mode = match hart.check() {
+        Ok(mode) => mode,
+        Err(bad) => return refused(Refusal::Hart(bad)),
     };
-    if image.is_refused() {
-        return refused(1);
+    if let Some(bad) = image.refusal() {
+        return refused(Refusal::Image(bad));
     }
-    if access.is_refused() {
-        return refused(3);
+    if let Some(bad) = access.refusal() {
+        return refused(Refusal::Access(bad));
     }
     let mut walk = Walk {
         hart,
@@ -236,15 +273,17 @@ pub fn translate(hart: &Hart, image: &Image, access: &Access) -> Translation {
         },
         list: walk.list,
         why: end.err().map(|fault| fault.why),
+        refusal: None,
     }
 }
 
 /// A refused translation: its list is empty.
-fn refused(number: u64) -> Translation {
+fn refused(refusal: Refusal) -> Translation {
     Translation {
-        answer: Answer::Refused(number),
+        answer: Answer::Refused(refusal.number()),
         list: List::default(),
         why: None,
+        refusal: Some(refusal),
     }
 }
 
@@ -413,11 +452,29 @@ enum Purpose {
     Access,
 }
 
-impl Purpose {
-    fn part(self) -> Part {
+/// A stage, and what it translates.
+#[derive(Clone, Copy, PartialEq, Eq, Debug)]
+enum Stage {
+    /// The first stage: the access's own address.
+    First,
+    /// The second stage: this address, for this purpose.
+    Second(GuestPhysical, Purpose),
+}
+
+impl Stage {
+    /// "stage (1 first, 2 second)".
+    fn number(self) -> u64 {
         match self {
-            Purpose::GuestEntry => Part::HgatpForEntry,
-            Purpose::Access => Part::HgatpForAccess,
+            Stage::First => 1,
+            Stage::Second(..) => 2,
+        }
+    }
+
+    /// What the second stage is on the way to.
+    fn guest(self) -> Option<GuestPhysical> {
+        match self {
+            Stage::First => None,
+            Stage::Second(guest, _) => Some(guest),
         }
     }
 }
@@ -468,7 +525,8 @@ impl Walk<'_> {
             Kind::Load => 4,
             Kind::Store => 6,
         };
-        Err(self.fault(cause, 0, 0, self.why(Rule::Misaligned, Part::Access, None)))
+        let why = self.why_of_access(Rule::Misaligned, self.access.address);
+        Err(self.fault(cause, 0, 0, why))
     }
 
     /// "At the end the whole access must lie in the image, else 1, 5, 7."
@@ -476,7 +534,7 @@ impl Walk<'_> {
         if self.image.holds(machine, self.access.width) {
             return Ok(());
         }
-        Err(self.access_fault(self.why(Rule::AccessOutside, Part::Access, None)))
+        Err(self.access_fault(self.why_of_access(Rule::AccessOutside, machine.0)))
     }
 
     // Faults. "The value is the virtual address; the flag is the effective V."
@@ -494,8 +552,43 @@ impl Walk<'_> {
         }
     }
 
-    fn why(&self, rule: Rule, part: Part, level: Option<u64>) -> Why {
-        Why { rule, part, level }
+    /// A rule about the access itself.
+    fn why_of_access(&self, rule: Rule, address: u64) -> Why {
+        Why {
+            rule,
+            part: Part::Access,
+            level: None,
+            address,
+            width: self.access.width,
+            guest: None,
+        }
+    }
+
+    /// A rule about what a stage translates.
+    fn why_of_stage(&self, rule: Rule, stage: Stage, address: u64) -> Why {
+        Why {
+            part: self.part(stage),
+            guest: stage.guest(),
+            ..self.why_of_access(rule, address)
+        }
+    }
+
+    /// A rule about an entry of a stage.
+    fn why_of_entry(&self, rule: Rule, stage: Stage, level: u64, place: Machine) -> Why {
+        Why {
+            level: Some(level),
+            ..self.why_of_stage(rule, stage, place.0)
+        }
+    }
+
+    /// The part of the walk that a stage is.
+    fn part(&self, stage: Stage) -> Part {
+        match stage {
+            Stage::First if self.mode.v() => Part::Vsatp,
+            Stage::First => Part::Satp,
+            Stage::Second(_, Purpose::GuestEntry) => Part::HgatpForEntry,
+            Stage::Second(_, Purpose::Access) => Part::HgatpForAccess,
+        }
     }
 
     /// "access fault 1, 5, 7 by the original access".
@@ -504,21 +597,13 @@ impl Walk<'_> {
     }
 
     /// "page fault 12, 13, 15 (fetch, load, store)".
-    fn page_fault(&self, rule: Rule, level: Option<u64>) -> Fault {
-        let why = self.why(rule, self.first_part(), level);
+    fn page_fault(&self, why: Why) -> Fault {
         self.fault(self.access.kind.page_fault(), 0, 0, why)
     }
 
     /// "guest-page fault 20, 21, 23"; for a guest entry it "is raised as a load guest-page fault, 21 [...], with instruction
     /// word 00003000 hex. Every guest-page fault's second value is the guest physical address shifted right by 2."
-    fn guest_page_fault(
-        &self,
-        guest: GuestPhysical,
-        purpose: Purpose,
-        rule: Rule,
-        level: Option<u64>,
-    ) -> Fault {
-        let why = self.why(rule, purpose.part(), level);
+    fn guest_page_fault(&self, guest: GuestPhysical, purpose: Purpose, why: Why) -> Fault {
         let second = guest.0 >> 2;
         match purpose {
             Purpose::GuestEntry => self.fault(21, second, 0x3000, why),
@@ -528,35 +613,21 @@ impl Walk<'_> {
 
     /// "An entry in the image is read, eight bytes, and listed"; "An entry outside the image: access fault"; "A read outside
     /// the image isn't listed."
-    fn read_entry(
-        &mut self,
-        stage: u64,
-        level: u64,
-        part: Part,
-        address: Machine,
-    ) -> Result<u64, Fault> {
-        let Some(value) = self.image.read(address) else {
-            let why = self.why(Rule::EntryOutside, part, Some(level));
+    fn read_entry(&mut self, stage: Stage, level: u64, place: Machine) -> Result<u64, Fault> {
+        let Some(value) = self.image.read(place) else {
+            let why = self.why_of_entry(Rule::EntryOutside, stage, level, place);
             return Err(self.access_fault(why));
         };
         self.list.push(Read {
-            stage,
+            stage: stage.number(),
             level,
-            address: address.0,
+            address: place.0,
             value,
         });
         Ok(value)
     }
 
     // The first stage.
-
-    fn first_part(&self) -> Part {
-        if self.mode.v() {
-            Part::Vsatp
-        } else {
-            Part::Satp
-        }
-    }
 
     /// The first stage of the access's address, by satp or vsatp. Its result is a machine address with V=0 and a guest
     /// physical address with V=1; the caller names it.
@@ -566,14 +637,15 @@ impl Walk<'_> {
             return Ok(address);
         }
         if !sv39_well_formed(address) {
-            return Err(self.page_fault(Rule::HighBits, None));
+            let why = self.why_of_stage(Rule::HighBits, Stage::First, address);
+            return Err(self.page_fault(why));
         }
         let mut level = TOP_LEVEL;
         let mut table = root_table(atp);
         loop {
             let place = table + 8 * first_stage_index(address, level);
             let machine = self.place_of_first_stage_entry(place)?;
-            let entry = self.read_entry(1, level, self.first_part(), machine)?;
+            let entry = self.read_entry(Stage::First, level, machine)?;
             match self.first_stage_entry(entry, level) {
                 Ok(Entry::Pointer {
                     level: next,
@@ -583,7 +655,10 @@ impl Walk<'_> {
                     table = below;
                 }
                 Ok(Entry::Leaf { ppn }) => return Ok(leaf_result(ppn, address, level)),
-                Err(rule) => return Err(self.page_fault(rule, Some(level))),
+                Err(rule) => {
+                    let why = self.why_of_entry(rule, Stage::First, level, machine);
+                    return Err(self.page_fault(why));
+                }
             }
         }
     }
@@ -647,17 +722,19 @@ impl Walk<'_> {
     /// The second stage, by hgatp: it alone turns a guest physical address into a machine address.
     fn second_stage(&mut self, guest: GuestPhysical, purpose: Purpose) -> Result<Machine, Fault> {
         let hgatp = self.hart.hgatp;
+        let stage = Stage::Second(guest, purpose);
         if atp_mode(hgatp) == BARE {
             return Ok(Machine(guest.0));
         }
         if !sv39x4_well_formed(guest) {
-            return Err(self.guest_page_fault(guest, purpose, Rule::HighBits, None));
+            let why = self.why_of_stage(Rule::HighBits, stage, guest.0);
+            return Err(self.guest_page_fault(guest, purpose, why));
         }
         let mut level = TOP_LEVEL;
         let mut table = root_table(hgatp);
         loop {
             let place = Machine(table + 8 * second_stage_index(guest, level));
-            let entry = self.read_entry(2, level, purpose.part(), place)?;
+            let entry = self.read_entry(stage, level, place)?;
             match self.second_stage_entry(entry, level, purpose) {
                 Ok(Entry::Pointer {
                     level: next,
@@ -667,7 +744,10 @@ impl Walk<'_> {
                     table = below;
                 }
                 Ok(Entry::Leaf { ppn }) => return Ok(Machine(leaf_result(ppn, guest.0, level))),
-                Err(rule) => return Err(self.guest_page_fault(guest, purpose, rule, Some(level))),
+                Err(rule) => {
+                    let why = self.why_of_entry(rule, stage, level, place);
+                    return Err(self.guest_page_fault(guest, purpose, why));
+                }
             }
         }
     }

@@ -644,12 +644,13 @@ fn check_rule(
         assert!(world.image.put(Machine(read.address), changed));
         let damaged = world.access(*kind);
         let context = format!("{part:?} leaf {leaf} level {level} {kind:?} {changed:x}");
-        let why = Why {
-            rule: expected,
-            part,
-            level: Some(level),
-        };
-        assert_eq!(damaged.why, Some(why), "{context}");
+        let why = damaged.why.expect(&context);
+        assert_eq!(why.key(), (expected, part, Some(level)), "{context}");
+        assert_eq!(why.address, read.address, "{context}");
+        // Both tables' and data's addresses are multiples of 4, so the second value holds all of them.
+        let second_stage = matches!(part, Part::HgatpForEntry | Part::HgatpForAccess);
+        let guest = second_stage.then_some(GuestPhysical(fault(&damaged).second << 2));
+        assert_eq!(why.guest, guest, "{context}");
         assert_eq!(fault(&damaged), expected_fault(part, *kind), "{context}");
         // Every place before is as in the sound walk, but for the changed entry itself; nothing is listed after it.
         assert!(damaged.list.count <= place + 1, "{context}");
@@ -1036,12 +1037,16 @@ fn high_bits_of_the_guest_physical_address_of_an_entry() {
     world.hart.vsatp = (8 << 60) | (1 << 29);
     for kind in KINDS {
         let translation = world.access(kind);
+        let guest = (1 << 41) + 8;
         assert_eq!(
             translation.why,
             Some(Why {
                 rule: Rule::HighBits,
                 part: Part::HgatpForEntry,
-                level: None
+                level: None,
+                address: guest,
+                width: 4,
+                guest: Some(GuestPhysical(guest)),
             })
         );
         let expected = Trap {
@@ -1087,12 +1092,9 @@ fn an_entry_outside_the_image_is_an_access_fault_and_not_listed() {
                     world.image.put(Machine(above.address), entry(outside, V));
                 }
                 let translation = world.access(kind);
-                let why = Why {
-                    rule: Rule::EntryOutside,
-                    part,
-                    level: Some(level),
-                };
-                assert_eq!(translation.why, Some(why));
+                let why = translation.why.expect("a fault");
+                assert_eq!(why.key(), (Rule::EntryOutside, part, Some(level)));
+                assert!(!world.image.holds(Machine(why.address), 1));
                 let trap = fault(&translation);
                 assert_eq!(trap.cause, kind.access_fault());
                 assert_eq!((trap.second, trap.word), (0, 0));

@@ -1,8 +1,10 @@
 //! Runs the program itself: standard input and files, exit statuses, sentences, large and odd input.
 
-use std::io::{Read, Write};
+use std::io::{BufRead, BufReader, Read, Write};
 use std::path::PathBuf;
 use std::process::{Command, Output, Stdio};
+use std::sync::mpsc;
+use std::time::Duration;
 
 fn second() -> Command {
     Command::new(env!("CARGO_BIN_EXE_second"))
@@ -56,6 +58,23 @@ fn an_empty_script() {
     let output = through_input(b"");
     assert_eq!(output.stdout, b"");
     assert_eq!(output.status.code(), Some(0));
+}
+
+#[test]
+fn reasons_are_written_where_they_are_asked_for() {
+    let folder = Folder::new("reasons");
+    let script = folder.0.join("script");
+    std::fs::write(&script, "read 1000\nload 0 8\nwfi\n").unwrap();
+    let output = second().arg(&script).output().unwrap();
+    assert_eq!(output.stdout, b"refused 5\nfault 5 0 0 0 0\nok\n");
+    let reasons: &[u8] = b"refused 5\n# why: register number 1000 is over fff\nfault 5 0 0 0 0\n\
+        # why: the access: 0 is outside the image: page 0 is missing\nok\n";
+    let output = second().arg("--why").arg(&script).output().unwrap();
+    assert_eq!(output.stdout, reasons);
+    assert_eq!(output.status.code(), Some(0));
+    let input = std::fs::File::open(&script).unwrap();
+    let output = second().arg("--why").stdin(input).output().unwrap();
+    assert_eq!(output.stdout, reasons);
 }
 
 #[test]
@@ -134,7 +153,14 @@ fn a_script_that_cannot_be_read() {
 
 #[test]
 fn a_wrong_command_line() {
-    for arguments in [&["a", "b"][..], &["--explain"], &["-"]] {
+    for arguments in [
+        &["a", "b"][..],
+        &["--explain"],
+        &["-"],
+        &["--why", "a", "b"],
+        &["--why", "--why"],
+        &["a", "--why"],
+    ] {
         let output = second().args(arguments).output().unwrap();
         assert_eq!(output.status.code(), Some(2));
         assert!(String::from_utf8_lossy(&output.stderr).contains("usage"));
@@ -193,4 +219,121 @@ fn one_very_long_line() {
     let output = through_input(&vec![b'f'; 5_000_000]);
     assert_eq!(output.stdout, b"error 1\n");
     assert!(output.stderr.len() < 200);
+}
+
+/// The longest line: 16 MiB.
+const LONGEST_LINE: usize = 0x100_0000;
+
+#[test]
+fn a_line_of_16_mib_is_taken_and_no_longer_one() {
+    let line = |length: usize| {
+        let mut script = b"wfi\nread 300".to_vec();
+        script.resize(b"wfi\n".len() + length, b' ');
+        script.extend(b"\nwfi\n");
+        script
+    };
+    let output = through_input(&line(LONGEST_LINE));
+    assert_eq!(output.stdout, b"ok\nvalue a00000000\nok\n");
+    assert_eq!(output.status.code(), Some(0));
+    let output = through_input(&line(LONGEST_LINE + 1));
+    assert_eq!(output.stdout, b"ok\nerror 2\n");
+    assert_eq!(output.status.code(), Some(1));
+    let sentence = String::from_utf8(output.stderr).unwrap();
+    assert!(sentence.contains("longer than 1000000 bytes"), "{sentence}");
+}
+
+/// Runs the program on a script without an end, in 300 MB of memory.
+#[cfg(target_os = "linux")]
+fn in_little_memory(script: &str) -> Output {
+    let command = format!("ulimit -v 300000; {script} | \"$0\" --why");
+    let program = env!("CARGO_BIN_EXE_second");
+    let shell = Command::new("sh").args(["-c", &command, program]).output();
+    shell.unwrap()
+}
+
+#[test]
+#[cfg(target_os = "linux")]
+fn a_script_without_an_end() {
+    for (script, expected) in [
+        ("cat /dev/zero", "raw image"),
+        ("yes '' | tr '\\n' ' '", "longer than"),
+        ("{ echo '# x'; yes | tr -d '\\n'; }", "longer than"),
+        ("yes '#' | tr -d '\\n'", "longer than"),
+    ] {
+        let output = in_little_memory(script);
+        let number = if script.contains("echo") { 2 } else { 1 };
+        let answer = String::from_utf8(output.stdout).unwrap();
+        assert_eq!(answer, format!("error {number}\n"), "{script}");
+        assert_eq!(output.status.code(), Some(1), "{script}");
+        let sentence = String::from_utf8(output.stderr).unwrap();
+        assert!(sentence.contains(expected), "{script}: {sentence}");
+    }
+}
+
+#[test]
+fn a_raw_image_is_told_from_a_script() {
+    for (script, line) in [
+        (&b"\x7fELF\0"[..], 1),
+        (b"wfi\nload 0 8\0# a comment\n", 2),
+        (b"wfi # \0\nwfi\n\0", 3),
+        (b"file 0 a\0b\n", 1),
+    ] {
+        let output = through_input(script);
+        let error = format!("error {line}\n");
+        assert!(output.stdout.ends_with(error.as_bytes()));
+        assert_eq!(output.status.code(), Some(1));
+        let sentence = String::from_utf8(output.stderr).unwrap();
+        assert!(sentence.contains("looks like a raw image"), "{sentence}");
+        assert!(sentence.contains("file BASE PATH"), "{sentence}");
+    }
+    // Behind `#` it is part of a comment, or of a path.
+    assert_eq!(through_input(b"wfi # \0\n").status.code(), Some(0));
+    let output = through_input(b"file 0 #\0\n");
+    assert_eq!(output.stdout, b"error 1\n");
+    assert!(String::from_utf8_lossy(&output.stderr).contains("can't be read"));
+}
+
+#[test]
+fn a_tool_that_waits_for_each_answer_gets_it() {
+    let mut child = second()
+        .arg("--why")
+        .stdin(Stdio::piped())
+        .stdout(Stdio::piped())
+        .stderr(Stdio::null())
+        .spawn()
+        .unwrap();
+    let mut input = child.stdin.take().unwrap();
+    let output = BufReader::new(child.stdout.take().unwrap());
+    let (sender, receiver) = mpsc::channel();
+    std::thread::spawn(move || {
+        for line in output.lines() {
+            sender.send(line.unwrap()).unwrap();
+        }
+    });
+    let mut write = |piece: &[u8]| {
+        input.write_all(piece).unwrap();
+        input.flush().unwrap();
+    };
+    let answer = || receiver.recv_timeout(Duration::from_secs(10)).ok();
+    for _ in 0..3 {
+        write(b"read 300\n");
+        assert_eq!(answer().as_deref(), Some("value a00000000"));
+    }
+    // A line in two pieces, with the beginning of another behind it.
+    write(b"wfi\nread 10");
+    assert_eq!(answer().as_deref(), Some("ok"));
+    write(b"00\nsh");
+    assert_eq!(answer().as_deref(), Some("refused 5"));
+    assert_eq!(
+        answer().as_deref(),
+        Some("# why: register number 1000 is over fff")
+    );
+    write(b"ow\n");
+    assert_eq!(answer().as_deref(), Some("hart 0 3 10"));
+    // The answer of the last line needs no line feed, only the end.
+    write(b"wfi");
+    drop(input);
+    let rest: Vec<String> = receiver.iter().collect();
+    assert_eq!(rest.last().map(String::as_str), Some("ok"));
+    assert_eq!(child.wait().unwrap().code(), Some(0));
 }

@@ -5,6 +5,7 @@ use second::address::Machine;
 use second::calls::{ebreak, ecall};
 use second::hart::{Hart, Mode};
 use second::image::Image;
+use second::reasons::Reason;
 use second::registers::{after_write, ROWS};
 use second::returns::{mret, sret};
 use second::trap::{request, Ending, Outcome, Trap};
@@ -67,6 +68,20 @@ fn any_hart(random: &mut Random) -> Hart {
     hart
 }
 
+/// A refusal has a reason of its number, a trap with cause 2 or 22 a rule, and what was done has none.
+fn check_reason(outcome: &Outcome) {
+    match (outcome.ending, outcome.reason) {
+        (Ending::Refused(number), Some(Reason::Refused(refusal))) => {
+            assert_eq!(refusal.number(), number);
+        }
+        (Ending::Trapped(trap, _), Some(Reason::Forbidden(_))) => {
+            assert!(matches!(trap.cause, 2 | 22));
+        }
+        (Ending::Trapped(..) | Ending::Done, None) => {}
+        other => panic!("{other:?}"),
+    }
+}
+
 /// Every event but translations, with random numbers.
 fn outcomes(random: &mut Random, hart: &Hart) -> Vec<Outcome> {
     let mut outcomes = Vec::new();
@@ -117,9 +132,11 @@ fn outcomes(random: &mut Random, hart: &Hart) -> Vec<Outcome> {
         let accessed = access(hart, number, action);
         if accessed.outcome.ending != Ending::Done {
             assert_eq!(accessed.old, 0, "a trap or refusal answers 0");
+            assert!(accessed.outcome.reason.is_some());
         }
         outcomes.push(accessed.outcome);
     }
+    outcomes.iter().for_each(check_reason);
     outcomes
 }
 
@@ -197,9 +214,14 @@ fn translations_of_any_numbers() {
         match translation.answer {
             Answer::Refused(number) => {
                 assert!((1..=3).contains(&number));
+                let refusal = translation.refusal.map(|refusal| refusal.number());
+                assert_eq!(refusal, Some(number));
                 assert_eq!(translation.list, List::default());
             }
-            Answer::Address(address) => assert!(image.holds(address, access.width)),
+            Answer::Address(address) => {
+                assert!(image.holds(address, access.width));
+                assert_eq!((translation.why, translation.refusal), (None, None));
+            }
             Answer::Fault(trap) => {
                 assert_eq!(trap.value, access.address);
                 assert!(translation.why.is_some());

@@ -95,10 +95,14 @@ const ALWAYS_BAD: [&[u8]; 88] = [
 ];
 
 /// Lines with bytes that are no text.
-const BYTES: [&[u8]; 8] = [
+const BYTES: [&[u8]; 12] = [
     b"\xff\xfe",
     b"\x00",
     b"load 0\x00 8",
+    b"load 0 8\x00# a comment",
+    b"\x00# a comment",
+    b"file 0 table.bin\x00",
+    b"file 0 odd #\x00",
     b"load\x0b0 8",
     b"load\x0c0 8",
     b"load \xd9\xa0 8",
@@ -156,7 +160,7 @@ fn random_bytes(scribe: &mut Scribe) -> Vec<u8> {
 #[cfg(test)]
 mod tests {
     use super::*;
-    use crate::program::Folder;
+    use crate::program::{model, Folder};
     use second::script::run_line;
 
     #[test]
@@ -165,7 +169,10 @@ mod tests {
         for line in ALWAYS_BAD.iter().chain(&BYTES) {
             let mut scribe = Scribe::new(1, folder.path().to_path_buf());
             let text = line.escape_ascii().to_string();
-            assert!(run_line(&mut scribe.session, line).is_err(), "{text}");
+            assert!(
+                run_line(model, &mut scribe.session, line).is_err(),
+                "{text}"
+            );
         }
     }
 
@@ -179,9 +186,9 @@ mod tests {
                 .pick(&["image 1000 10", "image 0 0", "image 0 1000"]);
             scribe.line(image);
             let line = put_outside(&mut scribe);
-            assert!(run_line(&mut scribe.session, &line).is_err());
+            assert!(run_line(model, &mut scribe.session, &line).is_err());
             let line = random_bytes(&mut scribe);
-            assert!(run_line(&mut scribe.session, &line).is_err());
+            assert!(run_line(model, &mut scribe.session, &line).is_err());
         }
     }
 }

@@ -78,9 +78,20 @@ fn choose_length(scribe: &mut Scribe) -> u64 {
 
 /// The largest image that is taken, the smallest that is too large, and one of 128 MiB.
 pub fn large_images(scribe: &mut Scribe) {
-    let length = scribe
-        .rng
-        .pick(&[0x400_0000, 0x400_1000, 0x3ff_f000, 0x800_0000, 0x400_0008]);
+    let lengths = [0x400_0000, 0x400_1000, 0x3ff_f000, 0x800_0000, 0x400_0008];
+    let length = scribe.rng.pick(&lengths);
+    large_image(scribe, length);
+}
+
+/// The largest image that is taken, and two that are too large.
+pub fn around_the_largest(scribe: &mut Scribe) {
+    for length in [0x400_0000, 0x400_1000, 0x400_0008] {
+        large_image(scribe, length);
+    }
+}
+
+/// An image of this length, and accesses at its end.
+fn large_image(scribe: &mut Scribe, length: u64) {
     let base = scribe.rng.pick(&[0, 0x8000_0000, (1 << 56) - 0x400_0000]);
     scribe.line(&format!("image {base:x} {length:x}"));
     scribe.put(base + length - 8, 0xdf);

@@ -90,7 +90,17 @@ pub fn choose_cause(scribe: &mut Scribe) -> u64 {
 
 /// A trap of this cause: mostly one that can arise in this mode, else with one thing wrong.
 pub fn choose_trap(scribe: &mut Scribe, mode: Mode, cause: u64) -> Trap {
-    let guest_page_fault = matches!(cause, 20 | 21 | 23);
+    let mut trap = fitting_trap(scribe, mode, cause);
+    let number = scribe.rng.number();
+    let thing = scribe.rng.below(10);
+    if thing < THINGS {
+        spoil(&mut trap, thing, number);
+    }
+    trap
+}
+
+/// A trap of this cause with nothing wrong but, perhaps, the mode.
+fn fitting_trap(scribe: &mut Scribe, mode: Mode, cause: u64) -> Trap {
     let mut trap = Trap {
         cause,
         value: scribe.rng.number(),
@@ -101,7 +111,7 @@ pub fn choose_trap(scribe: &mut Scribe, mode: Mode, cause: u64) -> Trap {
     if matches!(cause, 8..=11) {
         trap.value = 0;
     }
-    if guest_page_fault {
+    if matches!(cause, 20 | 21 | 23) {
         trap.second = scribe.rng.number();
         trap.word = scribe.rng.pick(&[0, 0x3000, u64::MAX]);
         trap.flag = true;
@@ -109,14 +119,40 @@ pub fn choose_trap(scribe: &mut Scribe, mode: Mode, cause: u64) -> Trap {
     if matches!(cause, 2 | 8..=11 | 22) {
         trap.flag = false;
     }
-    match scribe.rng.below(10) {
-        0 => trap.flag = !trap.flag,
-        1 => trap.second = scribe.rng.number(),
-        2 => trap.word = scribe.rng.number(),
-        3 => trap.value = scribe.rng.number(),
-        _ => {}
-    }
     trap
+}
+
+/// The things of a trap that can be wrong.
+const THINGS: u64 = 4;
+
+/// Makes one thing of a trap another, which is wrong for some causes.
+fn spoil(trap: &mut Trap, thing: u64, number: u64) {
+    match thing {
+        0 => trap.flag = !trap.flag,
+        1 => trap.second = number,
+        2 => trap.word = number,
+        _ => trap.value = number,
+    }
+}
+
+/// Every cause from a mode that it arises in, with V=1 where it can, and with each thing of the trap spoilt in turn.
+pub fn wrong_requests(scribe: &mut Scribe) {
+    for cause in crate::coverage::CAUSES {
+        let mode = match cause {
+            9 => Mode::Hs,
+            10 => Mode::Vs,
+            11 => Mode::M,
+            8 => Mode::Vu,
+            _ => scribe.rng.pick(&[Mode::Vu, Mode::Vs]),
+        };
+        for thing in 0..THINGS {
+            let pc = scribe.pc();
+            scribe.hart(mode, pc);
+            let mut trap = fitting_trap(scribe, mode, cause);
+            spoil(&mut trap, thing, scribe.rng.bits() | 1);
+            request(scribe, &trap);
+        }
+    }
 }
 
 /// Environment calls, breakpoints, returns, waits and fences.

@@ -1,0 +1,302 @@
+//! Reasons in words: why an event was refused, why a translation ended with a fault, and why an access to a register, a return,
+//! WFI or a fence trapped. The rules themselves stand in the other modules; here is only what they are called.
+
+use std::fmt::{Display, Formatter, Result};
+
+use crate::access::LAST_NUMBER;
+use crate::hart::{BadHart, Mode};
+use crate::image::{BadImage, END_LIMIT, LARGEST, PAGE};
+use crate::registers::Wrong;
+use crate::trap::{BadRequest, Control, Forbidden, Refusal};
+use crate::walk::{BadAccess, Part, Rule, Why};
+
+/// A reason. Its text is what stands behind `# why: `.
+#[derive(Clone, Copy, PartialEq, Eq, Debug)]
+pub enum Reason {
+    /// The model said no.
+    Refused(Refusal),
+    /// A trap with cause 2 or 22.
+    Forbidden(Forbidden),
+    /// The fault of a translation.
+    Fault(Why),
+}
+
+impl Display for Reason {
+    fn fmt(&self, text: &mut Formatter) -> Result {
+        match self {
+            Reason::Refused(refusal) => refusal.fmt(text),
+            Reason::Forbidden(rule) => rule.fmt(text),
+            Reason::Fault(why) => why.fmt(text),
+        }
+    }
+}
+
+impl Display for Mode {
+    fn fmt(&self, text: &mut Formatter) -> Result {
+        text.write_str(match self {
+            Mode::U => "U",
+            Mode::Hs => "HS",
+            Mode::M => "M",
+            Mode::Vu => "VU",
+            Mode::Vs => "VS",
+        })
+    }
+}
+
+// Refusals.
+
+impl Display for Refusal {
+    fn fmt(&self, text: &mut Formatter) -> Result {
+        match self {
+            Refusal::Image(bad) => bad.fmt(text),
+            Refusal::Hart(bad) => bad.fmt(text),
+            Refusal::Access(bad) => bad.fmt(text),
+            Refusal::Request(bad) => bad.fmt(text),
+            Refusal::Number(number) => {
+                write!(text, "register number {number:x} is over {LAST_NUMBER:x}")
+            }
+        }
+    }
+}
+
+impl Display for BadHart {
+    fn fmt(&self, text: &mut Formatter) -> Result {
+        match self {
+            BadHart::Mode(v, privilege) => write!(
+                text,
+                "V {v:x} and privilege {privilege:x} are none of the five modes"
+            ),
+            BadHart::Register(row, wrong) => {
+                write!(text, "{} ({:x}): {wrong}", row.name, row.number)
+            }
+            BadHart::Pc(pc) => write!(text, "pc {pc:x} is not a multiple of 4"),
+            BadHart::MprvOutsideM => {
+                text.write_str("mstatus (300): MPRV is 1; outside M it may hold 0")
+            }
+        }
+    }
+}
+
+impl Display for Wrong {
+    fn fmt(&self, text: &mut Formatter) -> Result {
+        match self {
+            Wrong::Field(field, holds) => {
+                let may_hold = choice(field.allowed);
+                write!(text, "{} is {holds:x}; it may hold {may_hold}", field.name)
+            }
+            Wrong::Bit(position) => write!(text, "bit {position} is 1; it may hold 0"),
+        }
+    }
+}
+
+/// Numbers to choose from: `2`, `0 or 8`, `0, 1 or 3`.
+fn choice(numbers: &[u64]) -> String {
+    let mut words: Vec<String> = numbers.iter().map(|number| format!("{number:x}")).collect();
+    let last = words.pop().unwrap_or_default();
+    if words.is_empty() {
+        last
+    } else {
+        format!("{} or {last}", words.join(", "))
+    }
+}
+
+impl Display for BadImage {
+    fn fmt(&self, text: &mut Formatter) -> Result {
+        match self {
+            BadImage::TooLarge(length) => {
+                write!(
+                    text,
+                    "the image has {length:x} bytes; it may have {LARGEST:x}"
+                )
+            }
+            BadImage::Base(base) => {
+                write!(
+                    text,
+                    "the image's base {base:x} is not a multiple of {PAGE:x}"
+                )
+            }
+            BadImage::Length(length) => write!(
+                text,
+                "the image's length {length:x} is not a multiple of {PAGE:x}"
+            ),
+            BadImage::End(end) => {
+                write!(
+                    text,
+                    "the image ends at {end:x}; it may end at {END_LIMIT:x}"
+                )
+            }
+        }
+    }
+}
+
+impl Display for BadAccess {
+    fn fmt(&self, text: &mut Formatter) -> Result {
+        match self {
+            BadAccess::Width(width) => write!(text, "width {width:x} is none of 1, 2, 4 and 8"),
+            BadAccess::FetchWidth(width) => write!(text, "a fetch has width 4, not {width:x}"),
+            BadAccess::FetchAddress(address) => write!(
+                text,
+                "a fetch's address is a multiple of 4; {address:x} is not"
+            ),
+        }
+    }
+}
+
+impl Display for BadRequest {
+    fn fmt(&self, text: &mut Formatter) -> Result {
+        match self {
+            BadRequest::Cause(cause) => write!(text, "{cause:x} is the number of no cause"),
+            BadRequest::FromElsewhere(cause) => {
+                let modes = modes_of_call(*cause);
+                write!(text, "cause {cause:x} arises in {modes} alone")
+            }
+            BadRequest::WithoutV(cause) => write!(text, "cause {cause:x} arises with V=1 alone"),
+            BadRequest::Value(cause, value) => {
+                write!(text, "the value of cause {cause:x} is 0, not {value:x}")
+            }
+            BadRequest::SecondValue(cause) => write!(text, "cause {cause:x} has no second value"),
+            BadRequest::Word(cause) => write!(text, "cause {cause:x} has no instruction word"),
+            BadRequest::FlagSet(cause) => write!(text, "cause {cause:x} has the flag clear"),
+            BadRequest::FlagClear(cause) => write!(text, "cause {cause:x} has the flag set"),
+            BadRequest::FlagClearWithV(cause) => {
+                write!(text, "with V=1 cause {cause:x} has the flag set")
+            }
+        }
+    }
+}
+
+/// Where an environment call comes from: "8 (U, VU), 9, 10, 11", which are HS, VS and M.
+fn modes_of_call(cause: u64) -> &'static str {
+    match cause {
+        8 => "U and VU",
+        9 => "HS",
+        10 => "VS",
+        _ => "M",
+    }
+}
+
+// Traps with cause 2 or 22.
+
+impl Display for Forbidden {
+    fn fmt(&self, text: &mut Formatter) -> Result {
+        match self {
+            Forbidden::Unlisted(number) => write!(text, "no register has the number {number:x}"),
+            Forbidden::ReadOnly(row) => {
+                write!(text, "{} ({:x}) is read-only", row.name, row.number)
+            }
+            Forbidden::Register(row, mode) => write!(
+                text,
+                "{} ({:x}) is out of reach in {mode}",
+                row.name, row.number
+            ),
+            Forbidden::Instruction(name, mode) => write!(text, "{name} is out of reach in {mode}"),
+            Forbidden::Bit(control) => write!(text, "{} is 1", bit_name(*control)),
+        }
+    }
+}
+
+/// The register of a bit and its name.
+fn bit_name(control: Control) -> &'static str {
+    match control {
+        Control::Tvm => "mstatus.TVM",
+        Control::Tw => "mstatus.TW",
+        Control::Tsr => "mstatus.TSR",
+        Control::Vtvm => "hstatus.VTVM",
+        Control::Vtw => "hstatus.VTW",
+        Control::Vtsr => "hstatus.VTSR",
+    }
+}
+
+// Faults.
+
+impl Display for Why {
+    fn fmt(&self, text: &mut Formatter) -> Result {
+        self.write_part(text)?;
+        if let Some(level) = self.level {
+            write!(text, ", level {level}")?;
+        }
+        text.write_str(": ")?;
+        self.write_rule(text)
+    }
+}
+
+impl Why {
+    fn write_part(&self, text: &mut Formatter) -> Result {
+        let guest = self.guest.map_or(0, |guest| guest.0);
+        match self.part {
+            Part::Access => text.write_str("the access"),
+            Part::Satp => text.write_str("first stage (satp)"),
+            Part::Vsatp => text.write_str("first stage (vsatp)"),
+            Part::HgatpForEntry => write!(text, "second stage for the guest entry at {guest:x}"),
+            Part::HgatpForAccess => write!(text, "second stage for the access at {guest:x}"),
+        }
+    }
+
+    fn write_rule(&self, text: &mut Formatter) -> Result {
+        let address = self.address;
+        let page = address & !0xfff;
+        let words = match self.rule {
+            Rule::Misaligned => {
+                return write!(text, "{address:x} is not a multiple of {:x}", self.width)
+            }
+            Rule::HighBits if self.is_first_stage() => {
+                return write!(
+                    text,
+                    "bits 63:39 of {address:x} are not all equal to bit 38"
+                )
+            }
+            Rule::HighBits => return write!(text, "bits 63:41 of {address:x} are not all 0"),
+            Rule::EntryOutside => {
+                return write!(
+                    text,
+                    "the entry at {address:x} is outside the image: page {page:x} is missing"
+                )
+            }
+            Rule::AccessOutside => {
+                return write!(
+                    text,
+                    "{address:x} is outside the image: page {page:x} is missing"
+                )
+            }
+            Rule::NotValid => "V is 0",
+            Rule::WriteWithoutRead => "W without R",
+            Rule::ReservedBits => "a bit of 63:54 is set",
+            Rule::PointerWithA => "a pointer with A",
+            Rule::PointerWithD => "a pointer with D",
+            Rule::PointerWithU => "a pointer with U",
+            Rule::PointerAtLevelZero => "a pointer at level 0",
+            Rule::LargeLeafLowPpn => "a large leaf whose low PPN is not 0",
+            Rule::NotAccessed => "A is 0",
+            Rule::NotDirty => "a store needs D",
+            Rule::NotUser if self.is_first_stage() => "user mode needs U",
+            Rule::NotUser => "the second stage needs U",
+            Rule::SupervisorFetch => "supervisor mode may not fetch from a U page",
+            Rule::SupervisorNeedsSum if self.part == Part::Vsatp => {
+                "supervisor mode needs vsstatus.SUM on a U page"
+            }
+            Rule::SupervisorNeedsSum => "supervisor mode needs mstatus.SUM on a U page",
+            Rule::NotReadable => self.right_of_load(),
+            Rule::NotWritable => "a store needs W",
+            Rule::NotExecutable => "a fetch needs X",
+        };
+        text.write_str(words)
+    }
+
+    /// "SUM and MXR are vsstatus's when V=1, and mstatus.MXR counts too. Second stage: [...] MXR is mstatus's only. The hart's
+    /// reads of guest entries [...] need R, and MXR doesn't help."
+    fn right_of_load(&self) -> &'static str {
+        match self.part {
+            Part::Vsatp => "a load needs R, or X with vsstatus.MXR or mstatus.MXR",
+            Part::HgatpForEntry => "a read of a guest entry needs R",
+            _ => "a load needs R, or X with mstatus.MXR",
+        }
+    }
+
+    fn is_first_stage(&self) -> bool {
+        matches!(self.part, Part::Satp | Part::Vsatp)
+    }
+}
+
+#[cfg(test)]
+#[path = "reasons_tests.rs"]
+mod tests;

@@ -1,0 +1,416 @@
+//! Tests of the reasons: each text once, by scripts whose last line has it.
+
+use std::path::PathBuf;
+
+use crate::script::{run, run_line, Answer, Session, Writing};
+
+/// The reason of the last line of a script, whose lines are separated by `;`.
+fn why(script: &str) -> String {
+    let mut session = Session::new(PathBuf::new());
+    let mut last = Answer::Nothing;
+    for line in script.split(';') {
+        last = run_line(Session::perform, &mut session, line.as_bytes())
+            .unwrap_or_else(|bad| panic!("{line:?} of {script:?}: {}", bad.0));
+    }
+    last.reason()
+        .map_or("none".to_string(), |reason| reason.to_string())
+}
+
+fn check(cases: &[(&str, &str)]) {
+    for (script, expected) in cases {
+        assert_eq!(why(script), *expected, "{script}");
+    }
+}
+
+#[test]
+fn a_hart_is_refused() {
+    check(&[
+        (
+            "hart 1 3 0;wfi",
+            "V 1 and privilege 3 are none of the five modes",
+        ),
+        (
+            "hart ffffffffffffffff 12 1;wfi",
+            "V ffffffffffffffff and privilege 12 are none of the five modes",
+        ),
+        ("hart 0 1 6;ecall", "pc 6 is not a multiple of 4"),
+        (
+            "hart 0 1 0;reg 300 a00020000;ebreak",
+            "mstatus (300): MPRV is 1; outside M it may hold 0",
+        ),
+        (
+            "reg 300 a00001000;read 300",
+            "mstatus (300): MPP is 2; it may hold 0, 1 or 3",
+        ),
+        (
+            "reg 300 900000000;mret",
+            "mstatus (300): UXL is 1; it may hold 2",
+        ),
+        (
+            "reg 300 e00000000;sret",
+            "mstatus (300): SXL is 3; it may hold 2",
+        ),
+        (
+            "reg 200 0;load 0 8",
+            "vsstatus (200): UXL is 0; it may hold 2",
+        ),
+        (
+            "reg 600 0;trap 3 0 0 0 0",
+            "hstatus (600): VSXL is 0; it may hold 2",
+        ),
+        (
+            "reg 180 ffffffffffffffff;sfence.vma",
+            "satp (180): MODE is f; it may hold 0 or 8",
+        ),
+        (
+            "reg 280 9000000000000000;hfence.vvma",
+            "vsatp (280): MODE is 9; it may hold 0 or 8",
+        ),
+        (
+            "reg 680 1000000000000000;hfence.gvma",
+            "hgatp (680): MODE is 1; it may hold 0 or 8",
+        ),
+        (
+            "reg 34a 1;reg 305 7;wfi",
+            "mtvec (305): bit 1 is 1; it may hold 0",
+        ),
+        (
+            "reg 602 8000000000000200;reg 680 3;write 0 0",
+            "hedeleg (602): bit 9 is 1; it may hold 0",
+        ),
+    ]);
+}
+
+#[test]
+fn an_image_is_refused() {
+    check(&[
+        (
+            "image 1 4000001;load 0 3",
+            "the image has 4000001 bytes; it may have 4000000",
+        ),
+        (
+            "image 801 fff;load 0 3",
+            "the image's base 801 is not a multiple of 1000",
+        ),
+        (
+            "image 0 8;load 0 3",
+            "the image's length 8 is not a multiple of 1000",
+        ),
+        (
+            "image fffffffffffff000 2000;fetch 0 3",
+            "the image ends at 10000000000001000; it may end at 100000000000000",
+        ),
+    ]);
+}
+
+#[test]
+fn the_hart_comes_before_the_image_and_the_image_before_the_access() {
+    check(&[
+        (
+            "hart 0 3 2;image 1 1;fetch 0 3",
+            "pc 2 is not a multiple of 4",
+        ),
+        (
+            "image 100000000000000 1000;fetch 0 3",
+            "the image ends at 100000000001000; it may end at 100000000000000",
+        ),
+        ("hart 0 3 2;read 1000", "pc 2 is not a multiple of 4"),
+        ("hart 0 3 2;trap e 0 0 0 0", "pc 2 is not a multiple of 4"),
+    ]);
+}
+
+#[test]
+fn an_access_is_refused() {
+    check(&[
+        ("load 0 10", "width 10 is none of 1, 2, 4 and 8"),
+        ("fetch 1 0", "width 0 is none of 1, 2, 4 and 8"),
+        ("fetch 1 8", "a fetch has width 4, not 8"),
+        (
+            "fetch fffffffffffffffe 4",
+            "a fetch's address is a multiple of 4; fffffffffffffffe is not",
+        ),
+    ]);
+}
+
+#[test]
+fn a_trap_request_is_refused() {
+    check(&[
+        ("trap e 1 1 1 1", "e is the number of no cause"),
+        ("trap 8 1 1 1 1", "cause 8 arises in U and VU alone"),
+        ("trap 9 1 1 1 1", "cause 9 arises in HS alone"),
+        ("trap a 1 1 1 1", "cause a arises in VS alone"),
+        ("hart 0 1 0;trap b 1 1 1 1", "cause b arises in M alone"),
+        ("trap 16 1 1 1 1", "cause 16 arises with V=1 alone"),
+        ("trap b 1f 1 1 1", "the value of cause b is 0, not 1f"),
+        ("trap b 0 1 1 1", "cause b has no second value"),
+        ("trap 2 1 0 1 1", "cause 2 has no instruction word"),
+        ("trap 2 1 0 0 1", "cause 2 has the flag clear"),
+        ("hart 1 0 0;trap 16 1 0 0 1", "cause 16 has the flag clear"),
+        ("trap 17 1 1 1 0", "cause 17 has the flag set"),
+        (
+            "hart 1 0 0;trap f 1 0 0 0",
+            "with V=1 cause f has the flag set",
+        ),
+        ("trap 17 1 1 1 1", "none"),
+    ]);
+}
+
+#[test]
+fn an_access_to_a_register_is_refused_or_traps() {
+    check(&[
+        ("read 1000", "register number 1000 is over fff"),
+        ("read fff", "no register has the number fff"),
+        ("hart 1 0 0;write e12 0", "hgeip (e12) is read-only"),
+        ("hart 1 0 0;read e12", "hgeip (e12) is out of reach in VU"),
+        ("hart 0 0 0;read 100", "sstatus (100) is out of reach in U"),
+        (
+            "hart 0 1 0;set 34b 0 0",
+            "mtval2 (34b) is out of reach in HS",
+        ),
+        (
+            "hart 1 1 0;clear 280 0 1",
+            "vsatp (280) is out of reach in VS",
+        ),
+        ("hart 0 1 0;reg 300 a00100000;read 180", "mstatus.TVM is 1"),
+        ("hart 0 1 0;reg 300 a00100000;read 680", "mstatus.TVM is 1"),
+        ("hart 1 1 0;reg 600 200100000;read 180", "hstatus.VTVM is 1"),
+        ("read 300", "none"),
+    ]);
+}
+
+#[test]
+fn an_instruction_traps() {
+    let every_bit = "reg 300 a00700000;reg 600 200700000";
+    for (mode, instruction, expected) in [
+        ("0 1", "mret", "MRET is out of reach in HS"),
+        ("0 0", "sret", "SRET is out of reach in U"),
+        ("1 0", "sret", "SRET is out of reach in VU"),
+        ("0 1", "sret", "mstatus.TSR is 1"),
+        ("1 1", "sret", "hstatus.VTSR is 1"),
+        ("0 0", "wfi", "mstatus.TW is 1"),
+        ("0 0", "sfence.vma", "SFENCE.VMA is out of reach in U"),
+        ("0 1", "sfence.vma", "mstatus.TVM is 1"),
+        ("1 1", "sfence.vma", "hstatus.VTVM is 1"),
+        ("1 1", "hfence.vvma", "HFENCE.VVMA is out of reach in VS"),
+        ("1 0", "hfence.gvma", "HFENCE.GVMA is out of reach in VU"),
+        ("0 1", "hfence.gvma", "mstatus.TVM is 1"),
+        ("0 1", "hfence.vvma", "none"),
+        ("0 3", "wfi", "none"),
+        ("1 1", "ecall", "none"),
+        ("1 1", "ebreak", "none"),
+        ("1 1", "trap 2 0 0 0 0", "none"),
+    ] {
+        assert_eq!(
+            why(&format!("hart {mode} 0;{every_bit};{instruction}")),
+            expected
+        );
+    }
+    check(&[
+        ("hart 1 0 0;wfi", "WFI is out of reach in VU"),
+        ("hart 1 1 0;reg 600 200200000;wfi", "hstatus.VTW is 1"),
+    ]);
+}
+
+/// An image at 80000000 of four pages, in which each entry of `tables` is put.
+fn walked(hart: &str, tables: &str, access: &str) -> String {
+    why(&format!("image 80000000 4000;{hart};{tables};{access}"))
+}
+
+/// An Sv39 or Sv39x4 root at 80000000.
+const ROOT: &str = "8000000000080000";
+
+#[test]
+fn the_access_itself_faults() {
+    check(&[
+        ("load 1003 4", "the access: 1003 is not a multiple of 4"),
+        (
+            "load 80001238 8",
+            "the access: 80001238 is outside the image: page 80001000 is missing",
+        ),
+        (
+            "image 0 1000;hart 1 1 0;fetch ffffffffffffffec 4",
+            "the access: ffffffffffffffec is outside the image: page fffffffffffff000 is missing",
+        ),
+    ]);
+}
+
+#[test]
+fn the_first_stage_faults() {
+    let supervisor = format!("hart 0 1 0;reg 180 {ROOT}");
+    let user = format!("hart 0 0 0;reg 180 {ROOT}");
+    for (hart, entry, access, expected) in [
+        (&supervisor, "0", "load 0 8", "V is 0"),
+        (&supervisor, "5", "load 0 8", "W without R"),
+        (
+            &supervisor,
+            "40000000000001",
+            "load 0 8",
+            "a bit of 63:54 is set",
+        ),
+        (&supervisor, "41", "load 0 8", "a pointer with A"),
+        (&supervisor, "81", "load 0 8", "a pointer with D"),
+        (&supervisor, "11", "load 0 8", "a pointer with U"),
+        (&supervisor, "47", "load 0 8", "none"),
+        (
+            &supervisor,
+            "407",
+            "load 0 8",
+            "a large leaf whose low PPN is not 0",
+        ),
+        (&supervisor, "7", "load 0 8", "A is 0"),
+        (&supervisor, "47", "store 0 8", "a store needs D"),
+        (&user, "c7", "store 0 8", "user mode needs U"),
+        (
+            &supervisor,
+            "df",
+            "fetch 0 4",
+            "supervisor mode may not fetch from a U page",
+        ),
+        (
+            &supervisor,
+            "df",
+            "store 0 8",
+            "supervisor mode needs mstatus.SUM on a U page",
+        ),
+        (
+            &supervisor,
+            "c9",
+            "load 0 8",
+            "a load needs R, or X with mstatus.MXR",
+        ),
+        (&supervisor, "c3", "store 0 8", "a store needs W"),
+        (&supervisor, "c7", "fetch 0 4", "a fetch needs X"),
+    ] {
+        // The page of such a leaf begins at 0, outside the image.
+        let expected = match expected {
+            "none" => "the access: 0 is outside the image: page 0 is missing".to_string(),
+            rule => format!("first stage (satp), level 2: {rule}"),
+        };
+        let text = walked(hart, &format!("put 80000000 {entry}"), access);
+        assert_eq!(text, expected, "{entry} {access}");
+    }
+    assert_eq!(
+        walked(
+            &supervisor,
+            "put 80000000 20000401;put 80001000 20000801",
+            "load 0 1"
+        ),
+        "first stage (satp), level 0: V is 0"
+    );
+    assert_eq!(
+        walked(
+            &supervisor,
+            "put 80000000 20000401;put 80001000 20000801;put 80002ff8 1",
+            "load 1ff000 1"
+        ),
+        "first stage (satp), level 0: a pointer at level 0"
+    );
+    assert_eq!(
+        walked(&supervisor, "put 80000000 20001401", "load 200000 1"),
+        "first stage (satp), level 1: the entry at 80005008 is outside the image: page 80005000 is missing"
+    );
+    assert_eq!(
+        walked(&supervisor, "put 80000000 0", "load 4000000000 8"),
+        "first stage (satp): bits 63:39 of 4000000000 are not all equal to bit 38"
+    );
+}
+
+#[test]
+fn the_first_stage_of_a_guest_faults() {
+    let guest = format!("hart 1 1 0;reg 280 {ROOT}");
+    for (entry, access, expected) in [
+        ("0", "load 0 8", ", level 2: V is 0"),
+        (
+            "df",
+            "load 0 8",
+            ", level 2: supervisor mode needs vsstatus.SUM on a U page",
+        ),
+        (
+            "c9",
+            "load 0 8",
+            ", level 2: a load needs R, or X with vsstatus.MXR or mstatus.MXR",
+        ),
+        (
+            "0",
+            "load 8000000000000000 8",
+            ": bits 63:39 of 8000000000000000 are not all equal to bit 38",
+        ),
+    ] {
+        let text = walked(&guest, &format!("put 80000000 {entry}"), access);
+        assert_eq!(text, format!("first stage (vsatp){expected}"));
+    }
+    // From M by MPRV the effective mode counts.
+    let text = walked(
+        &format!("hart 0 3 0;reg 300 8a00020000;reg 280 {ROOT}"),
+        "put 80000000 c7",
+        "load 0 8",
+    );
+    assert_eq!(text, "first stage (vsatp), level 2: user mode needs U");
+}
+
+#[test]
+fn the_second_stage_faults() {
+    let alone = format!("hart 1 1 0;reg 680 {ROOT}");
+    let both = format!("{alone};reg 280 8000000000000001");
+    let access = "second stage for the access at 8";
+    let guest_entry = "second stage for the guest entry at 1000";
+    for (hart, part, entry, expected) in [
+        (&alone, access, "0", "V is 0"),
+        (&alone, access, "cf", "the second stage needs U"),
+        (
+            &alone,
+            access,
+            "d9",
+            "a load needs R, or X with mstatus.MXR",
+        ),
+        (&both, guest_entry, "0", "V is 0"),
+        (&both, guest_entry, "cf", "the second stage needs U"),
+        (&both, guest_entry, "d9", "a read of a guest entry needs R"),
+    ] {
+        let text = walked(hart, &format!("put 80000000 {entry}"), "load 8 8");
+        assert_eq!(text, format!("{part}, level 2: {expected}"));
+    }
+    assert_eq!(
+        walked(&alone, "put 80000000 0", "load 20000000008 8"),
+        "second stage for the access at 20000000008: bits 63:41 of 20000000008 are not all 0"
+    );
+    assert_eq!(
+        walked(
+            &format!("{alone};reg 280 8000000020000000"),
+            "put 80000000 0",
+            "load 0 1"
+        ),
+        "second stage for the guest entry at 20000000000: bits 63:41 of 20000000000 are not all 0"
+    );
+    assert_eq!(
+        walked(&both, "put 80000000 20001401", "load 8 8"),
+        "second stage for the guest entry at 1000, level 1: \
+         the entry at 80005000 is outside the image: page 80005000 is missing"
+    );
+    // The guest's own entry outside: the address is the machine's.
+    assert_eq!(
+        walked(&both, "put 80000000 100000df", "load 8 8"),
+        "first stage (vsatp), level 2: the entry at 40001000 is outside the image: page 40001000 is missing"
+    );
+}
+
+#[test]
+fn a_reason_stands_behind_its_answer_and_its_reads() {
+    let script = b"image 80000000 1000\nhart 0 1 0\nreg 180 8000000000080000\nload 0 8\nread 300\nwfi\nread 1000\nnonsense\n";
+    let written = |writing| {
+        let mut output = Vec::new();
+        let mut session = Session::new(PathBuf::new());
+        run(&mut session, writing, &script[..], &mut output).unwrap();
+        String::from_utf8(output).unwrap()
+    };
+    assert_eq!(
+        written(Writing::Answers),
+        "fault d 0 0 0 0\nread 1 2 80000000 0\nvalue 0\nok\nrefused 5\nerror 8\n"
+    );
+    assert_eq!(
+        written(Writing::Reasons),
+        "fault d 0 0 0 0\nread 1 2 80000000 0\n# why: first stage (satp), level 2: V is 0\n\
+         value 0\n# why: mstatus (300) is out of reach in HS\nok\n\
+         refused 5\n# why: register number 1000 is over fff\nerror 8\n"
+    );
+}
