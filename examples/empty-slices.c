@@ -1,7 +1,7 @@
 /* Empty slices as C has them, a null pointer and the number 0: as an image they are taken, as words they have a wrong length.
  * Prints what each call returns without a hart, without room for its result, and without both; then accesses to an empty image.
  *
- *     rt staticlib exports
+ *     rust/build library
  *     cc -std=c99 -Iinclude examples/empty-slices.c target/staticlib/libexports.a -o empty-slices
  */
 #include <inttypes.h>

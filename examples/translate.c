@@ -1,6 +1,6 @@
 /* Translates one guest address through the second stage and prints the answer and the entries read for it.
  *
- *     rt staticlib exports
+ *     rust/build library
  *     cc -std=c99 -Iinclude examples/translate.c target/staticlib/libexports.a -o translate
  */
 #include <inttypes.h>

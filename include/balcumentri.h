@@ -1,6 +1,6 @@
 /* Balcumentri: a RISC-V hart with the hypervisor extension, as a proved library.
  *
- * Link with target/staticlib/libexports.a, which `rt staticlib exports` makes. The library keeps no state and allocates nothing.
+ * Link with target/staticlib/libexports.a, which `rust/build library` makes. The library keeps no state and allocates nothing.
  *
  * A slice is a pointer and the number of its words (or bytes). Where the number is 0 nothing is read or written through the
  * pointer, which may be null. The slices of one call do not overlap.
