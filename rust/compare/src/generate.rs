@@ -116,6 +116,7 @@ impl Sweep {
             self.registers(scribe);
         }
         traps::wrong_requests(scribe);
+        refusals::many_wrong(scribe);
     }
 
     fn numbers(&mut self, scribe: &mut Scribe) {

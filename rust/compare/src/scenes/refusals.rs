@@ -228,6 +228,29 @@ pub fn modes_and_pcs(scribe: &mut Scribe) {
     }
 }
 
+/// Harts with several things wrong at once: which of them is told first has an order.
+pub fn many_wrong(scribe: &mut Scribe) {
+    for _ in 0..12 {
+        let mode = scribe.mode();
+        let mut hart = scribe.legal_hart(mode);
+        for _ in 0..scribe.rng.below(4) {
+            let row = scribe.rng.pick(&ROWS);
+            let content = scribe.rng.number();
+            if let Some(place) = hart.stored_mut(row.number) {
+                *place = content;
+            }
+        }
+        hart.pc |= scribe.rng.below(4);
+        hart.mstatus |= scribe.rng.below(2) << MPRV;
+        if scribe.rng.chance(10) {
+            hart.privilege = 2;
+        }
+        scribe.whole_hart(&hart);
+        let bad = scribe.rng.chance(50);
+        event(scribe, bad);
+    }
+}
+
 /// Modes for the combinations of MPRV with each mode.
 pub fn mprv_everywhere(scribe: &mut Scribe) {
     for mode in Mode::ALL {
