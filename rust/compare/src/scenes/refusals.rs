@@ -160,7 +160,10 @@ fn translation(scribe: &mut Scribe, bad: bool) -> String {
     ]);
     match scribe.rng.below(4) {
         0 => format!("fetch {:x} 4", address | 2),
-        1 => format!("fetch {:x} {:x}", address & !7, scribe.rng.pick(&[1, 2, 8])),
+        1 => {
+            let aligned = scribe.rng.pick(&[address, address & !7]);
+            format!("fetch {aligned:x} {:x}", scribe.rng.pick(&[1, 2, 8]))
+        }
         2 => format!("fetch {address:x} {width:x}"),
         _ => format!(
             "{} {address:x} {width:x}",
