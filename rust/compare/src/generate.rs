@@ -37,15 +37,9 @@ pub fn flips_script(seed: u64, mode: Mode, folder: &Path) -> (Script, Coverage) 
     let mut scribe = Scribe::new(script_seed(seed, !(mode as u64)), folder.to_path_buf());
     edges::around_the_largest(&mut scribe);
     flips::flips(&mut scribe, mode);
-    let (script, coverage) = finished(scribe);
-    let explained = true;
-    (
-        Script {
-            explained,
-            ..script
-        },
-        coverage,
-    )
+    let (mut script, coverage) = finished(scribe);
+    script.explained = true;
+    (script, coverage)
 }
 
 /// A script with one of the longest lines, or with one that is a byte longer and bad, by its place in the run.
@@ -116,6 +110,7 @@ impl Sweep {
             self.registers(scribe);
         }
         traps::wrong_requests(scribe);
+        refusals::many_wrong(scribe);
     }
 
     fn numbers(&mut self, scribe: &mut Scribe) {

@@ -649,7 +649,7 @@ fn copies_with_a_wrong_reason() {
     ];
     for (place, perform) in copies.into_iter().enumerate() {
         println!("wrong reason {place}");
-        differs_in_reasons(&caught(perform, 16));
+        differs_in_reasons(&caught(perform, 20));
     }
 }
 
@@ -827,7 +827,7 @@ fn a_run_reaches_everything() {
     // Most translations get past the checks, and deep walks are common.
     let translations: u64 = coverage.translations.values().sum();
     let refused: u64 = coverage.refusals.values().sum();
-    assert!(coverage.events > 8 * refused);
+    assert!(coverage.events > 6 * refused, "{refused}");
     let deep: u64 = coverage.lengths.range(12..).map(|(_, number)| number).sum();
     assert!(deep * 12 > translations, "{deep} of {translations}");
 }

@@ -245,7 +245,7 @@ impl Hart {
 #[cfg(test)]
 mod tests {
     use super::*;
-    use crate::registers::{after_write, could_be_stored, find, HGEIP, SSTATUS};
+    use crate::registers::{after_write, HGEIP, SSTATUS};
 
     #[test]
     fn five_modes_and_no_other() {
@@ -332,7 +332,7 @@ mod tests {
                 let content = *place;
                 assert_eq!(
                     hart.checked_mode().is_some(),
-                    could_be_stored(find(row.number).unwrap(), content),
+                    wrong(row, content).is_none(),
                     "{} bit {position}",
                     row.name
                 );

@@ -437,11 +437,6 @@ fn wrong_bit(row: &Row, content: u64) -> Option<Wrong> {
     (lowest < u64::BITS).then_some(Wrong::Bit(lowest))
 }
 
-/// Whether some write could have stored `content` in the register of this row.
-pub fn could_be_stored(row: &Row, content: u64) -> bool {
-    wrong(row, content).is_none()
-}
-
 #[cfg(test)]
 mod tests {
     use super::*;
@@ -451,7 +446,7 @@ mod tests {
     }
 
     fn storable(number: u64, value: u64) -> bool {
-        could_be_stored(find(number).unwrap(), value)
+        wrong(find(number).unwrap(), value).is_none()
     }
 
     #[test]
@@ -628,11 +623,11 @@ mod tests {
         for row in &ROWS {
             for old in [0, u64::MAX, 0x1234_5678_9abc_def0] {
                 let held = after_write(row, masked(row, 0), old);
-                assert!(could_be_stored(row, held), "{} {held:x}", row.name);
+                assert_eq!(wrong(row, held), None, "{} {held:x}", row.name);
                 for position in 0..64 {
                     let changed = held ^ (1 << position);
                     assert_eq!(
-                        could_be_stored(row, changed),
+                        wrong(row, changed).is_none(),
                         after_write(row, masked(row, 0), changed) == changed,
                         "{} {changed:x}",
                         row.name

@@ -160,7 +160,10 @@ fn translation(scribe: &mut Scribe, bad: bool) -> String {
     ]);
     match scribe.rng.below(4) {
         0 => format!("fetch {:x} 4", address | 2),
-        1 => format!("fetch {:x} {:x}", address & !7, scribe.rng.pick(&[1, 2, 8])),
+        1 => {
+            let aligned = scribe.rng.pick(&[address, address & !7]);
+            format!("fetch {aligned:x} {:x}", scribe.rng.pick(&[1, 2, 8]))
+        }
         2 => format!("fetch {address:x} {width:x}"),
         _ => format!(
             "{} {address:x} {width:x}",
@@ -225,6 +228,29 @@ pub fn modes_and_pcs(scribe: &mut Scribe) {
         let word = scribe.rng.pick(&INSTRUCTIONS);
         scribe.line(word);
         scribe.show();
+    }
+}
+
+/// Harts with several things wrong at once: which of them is told first has an order.
+pub fn many_wrong(scribe: &mut Scribe) {
+    for _ in 0..12 {
+        let mode = scribe.mode();
+        let mut hart = scribe.legal_hart(mode);
+        for _ in 0..scribe.rng.below(4) {
+            let row = scribe.rng.pick(&ROWS);
+            let content = scribe.rng.number();
+            if let Some(place) = hart.stored_mut(row.number) {
+                *place = content;
+            }
+        }
+        hart.pc |= scribe.rng.below(4);
+        hart.mstatus |= scribe.rng.below(2) << MPRV;
+        if scribe.rng.chance(10) {
+            hart.privilege = 2;
+        }
+        scribe.whole_hart(&hart);
+        let bad = scribe.rng.chance(50);
+        event(scribe, bad);
     }
 }
 

@@ -135,7 +135,8 @@ fn spoil(trap: &mut Trap, thing: u64, number: u64) {
     }
 }
 
-/// Every cause from a mode that it arises in, with V=1 where it can, and with each thing of the trap spoilt in turn.
+/// Every cause from a mode that it arises in, with V=1 where it can, and with each thing of the trap spoilt in turn, and some
+/// of them together.
 pub fn wrong_requests(scribe: &mut Scribe) {
     for cause in crate::coverage::CAUSES {
         let mode = match cause {
@@ -145,11 +146,14 @@ pub fn wrong_requests(scribe: &mut Scribe) {
             8 => Mode::Vu,
             _ => scribe.rng.pick(&[Mode::Vu, Mode::Vs]),
         };
-        for thing in 0..THINGS {
+        let together = scribe.rng.below(1 << THINGS);
+        for things in [1, 2, 4, 8, together] {
             let pc = scribe.pc();
             scribe.hart(mode, pc);
             let mut trap = fitting_trap(scribe, mode, cause);
-            spoil(&mut trap, thing, scribe.rng.bits() | 1);
+            for thing in (0..THINGS).filter(|thing| (things >> thing) & 1 == 1) {
+                spoil(&mut trap, thing, scribe.rng.bits() | 1);
+            }
             request(scribe, &trap);
         }
     }
