@@ -13,6 +13,7 @@
 //! | [`program`] | a program under comparison: a process, or a function in this process |
 //! | [`shrink`] | the smallest script that still shows a difference |
 //! | [`comparing`] | the comparison itself |
+//! | [`mutants`] | a program's source with one small change, for tests |
 
 #![forbid(unsafe_code)]
 #![warn(missing_docs)]
@@ -21,6 +22,7 @@ pub mod comparing;
 pub mod coverage;
 pub mod fuzz;
 pub mod generate;
+pub mod mutants;
 pub mod program;
 pub mod reasons;
 pub mod rng;

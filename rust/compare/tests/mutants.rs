@@ -10,10 +10,8 @@ use std::path::{Path, PathBuf};
 use std::process::Command;
 
 use compare::comparing::{compare, Failure, Options, FULL_RUN};
+use compare::mutants::Mutant;
 use compare::program::{model, Folder, InProcess, Process};
-
-/// A change: the file, the text that is there once, and the text that takes its place.
-struct Mutant(&'static str, &'static str, &'static str);
 
 const MUTANTS: &[Mutant] = &[
     // registers.rs
@@ -271,59 +269,24 @@ fn source() -> PathBuf {
     Path::new(env!("CARGO_MANIFEST_DIR")).join("../second/src")
 }
 
-/// The text of a mutant's file with its change. The tests at the file's end stay as they are.
-fn changed_text(mutant: &Mutant) -> String {
-    let Mutant(file, from, to) = mutant;
-    let text = std::fs::read_to_string(source().join(file)).unwrap();
-    let end = text.find("#[cfg(test)]").unwrap_or(text.len());
-    let (code, tests) = text.split_at(end);
-    let count = code.matches(from).count();
-    assert_eq!(count, 1, "{file}: {from:?} is there once");
-    format!("{}{tests}", code.replace(from, to))
-}
-
 #[test]
 fn every_mutant_still_fits_the_source() {
     for mutant in MUTANTS.iter().chain(REASONS) {
-        changed_text(mutant);
+        mutant.changed_text(&source());
     }
 }
 
 /// Compiles the second program with one change; the program's path.
 fn build(mutant: &Mutant, folder: &Path) -> OsString {
-    let _ = std::fs::remove_dir_all(folder);
-    std::fs::create_dir_all(folder).unwrap();
-    for entry in std::fs::read_dir(source()).unwrap() {
-        let path = entry.unwrap().path();
-        std::fs::copy(&path, folder.join(path.file_name().unwrap())).unwrap();
-    }
-    let Mutant(file, from, to) = mutant;
-    std::fs::write(folder.join(file), changed_text(mutant)).unwrap();
-    let rustc = std::env::var_os("RUSTC").unwrap_or_else(|| OsString::from("rustc"));
-    let compile = |arguments: &[&str]| {
-        let status = Command::new(&rustc)
-            .current_dir(folder)
-            .args([
-                "--edition",
-                "2021",
-                "--cap-lints",
-                "allow",
-                "-C",
-                "opt-level=1",
-            ])
-            .args(arguments)
-            .status()
-            .unwrap();
-        assert!(status.success(), "{file}: {from:?} compiles as {to:?}");
-    };
-    compile(&["--crate-name", "second", "--crate-type", "rlib", "lib.rs"]);
-    compile(&[
-        "--crate-name",
-        "mutant",
-        "--extern",
-        "second=libsecond.rlib",
+    mutant.copy(&source(), folder);
+    let library = ["--crate-name=second", "--crate-type=rlib", "lib.rs"];
+    mutant.compile(folder, &library);
+    let program = [
+        "--crate-name=mutant",
+        "--extern=second=libsecond.rlib",
         "main.rs",
-    ]);
+    ];
+    mutant.compile(folder, &program);
     folder.join("mutant").into_os_string()
 }
 
@@ -349,17 +312,16 @@ fn is_caught(mutant: &Mutant, program: &OsString, folder: &Folder, seed: u64) ->
         folder,
     };
     let events = FULL_RUN;
-    let Mutant(file, from, to) = mutant;
     match compare(&first, &second, &Options { events, seed }, folder.path()) {
         Err(Failure::Different(difference)) => {
             let lines = difference.script.lines.len();
             let place = difference.place;
-            println!("{file}: {from:?} -> {to:?}: script {place}, {lines} lines");
+            println!("{mutant}: script {place}, {lines} lines");
             true
         }
         Err(Failure::NotRun(name, error)) => panic!("{name}: {error}"),
         Ok(_) => {
-            println!("{file}: {from:?} -> {to:?}: MISSED");
+            println!("{mutant}: MISSED");
             false
         }
     }
@@ -371,12 +333,11 @@ fn check(mutants: &[Mutant], shows: fn(&Mutant) -> bool) {
     let mut missed = Vec::new();
     for (mutant, seed) in mutants.iter().zip(1000..) {
         let program = build(mutant, &folder.path().join("mutant"));
-        let Mutant(file, from, to) = mutant;
         if shows(mutant) && !changes_an_example(&program) {
-            missed.push(format!("{file}: {from:?} -> {to:?} changes no example"));
+            missed.push(format!("{mutant} changes no example"));
         }
         if !is_caught(mutant, &program, &folder, seed) {
-            missed.push(format!("{file}: {from:?} -> {to:?}"));
+            missed.push(mutant.to_string());
         }
     }
     assert!(missed.is_empty(), "{missed:#?}");

@@ -4,12 +4,11 @@
 //!
 //! `cargo build --release && cargo test --release -p replay --test mutants -- --ignored --nocapture`
 
+use compare::mutants::Mutant;
 use compare::program::Folder;
+use std::ffi::OsString;
 use std::path::{Path, PathBuf};
 use std::process::Command;
-
-/// A change: the file, the text that is there once, and the text that takes its place.
-struct Mutant(&'static str, &'static str, &'static str);
 
 #[rustfmt::skip]
 const MUTANTS: &[Mutant] = &[
@@ -100,19 +99,10 @@ fn source() -> PathBuf {
     Path::new(env!("CARGO_MANIFEST_DIR")).join("src")
 }
 
-/// The text of a mutant's file with its change.
-fn changed_text(mutant: &Mutant) -> String {
-    let Mutant(file, from, to) = mutant;
-    let text = std::fs::read_to_string(source().join(file)).expect("the source is read");
-    let count = text.matches(from).count();
-    assert_eq!(count, 1, "{file}: {from:?} is there once");
-    text.replace(from, to)
-}
-
 #[test]
 fn every_mutant_still_fits_the_source() {
     for mutant in MUTANTS {
-        changed_text(mutant);
+        mutant.changed_text(&source());
     }
 }
 
@@ -137,34 +127,13 @@ fn wrapper() -> PathBuf {
 
 /// Compiles the program with one change; its path.
 fn build(mutant: &Mutant, folder: &Path) -> PathBuf {
-    let _ = std::fs::remove_dir_all(folder);
-    std::fs::create_dir_all(folder).expect("a folder is made");
-    for entry in std::fs::read_dir(source()).expect("the sources are read") {
-        let path = entry.expect("a file is read").path();
-        let copy = folder.join(path.file_name().unwrap_or_default());
-        std::fs::copy(&path, copy).expect("the source is copied");
-    }
-    let Mutant(file, from, to) = mutant;
-    std::fs::write(folder.join(file), changed_text(mutant)).expect("the change is written");
-    let rustc = std::env::var_os("RUSTC").unwrap_or_else(|| "rustc".into());
-    let mut wrapper_option = std::ffi::OsString::from("balcumentri=");
-    wrapper_option.push(wrapper());
-    let status = Command::new(rustc)
-        .current_dir(folder)
-        .env("CARGO_PKG_VERSION", env!("CARGO_PKG_VERSION"))
-        .args([
-            "--edition",
-            "2021",
-            "--cap-lints",
-            "allow",
-            "-C",
-            "opt-level=1",
-        ])
-        .args(["--crate-name", "mutant", "main.rs", "--extern"])
-        .arg(wrapper_option)
-        .status();
-    let compiled = status.expect("the compiler runs").success();
-    assert!(compiled, "{file}: {from:?} compiles as {to:?}");
+    mutant.copy(&source(), folder);
+    let mut library = OsString::from("--extern=balcumentri=");
+    library.push(wrapper());
+    mutant.compile(
+        folder,
+        &["--crate-name=mutant".into(), "main.rs".into(), library],
+    );
     folder.join("mutant")
 }
 
@@ -204,15 +173,13 @@ fn every_mutant_is_caught() {
     let mut missed = Vec::new();
     for (place, mutant) in MUTANTS.iter().enumerate() {
         let program = build(mutant, &folder.path().join("mutant"));
-        let Mutant(file, from, to) = mutant;
-        let what = format!("{file}: {from:?} -> {to:?}");
         let (golden, compared) = (
             changes_an_example(&program),
             compared_differs(&program, place),
         );
-        println!("{what}: examples {golden}, comparison {compared}");
+        println!("{mutant}: examples {golden}, comparison {compared}");
         if !golden && !compared {
-            missed.push(what);
+            missed.push(mutant.to_string());
         }
     }
     assert!(missed.is_empty(), "{missed:#?}");

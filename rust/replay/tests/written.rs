@@ -1,0 +1,206 @@
+//! What explanations say an event wrote, against the harts shown before and after it, over generated scripts: the mode and pc, and
+//! every register that changed, by its fields.
+
+use compare::coverage::event_word;
+use compare::generate::script;
+use compare::program::Folder;
+use std::collections::BTreeMap;
+use std::path::Path;
+use std::process::Command;
+
+/// The fields that traps and returns write: name, lowest bit and width.
+const MSTATUS: &[(&str, u32, u32)] = &[
+    ("SIE", 1, 1),
+    ("MIE", 3, 1),
+    ("SPIE", 5, 1),
+    ("MPIE", 7, 1),
+    ("SPP", 8, 1),
+    ("MPP", 11, 2),
+    ("MPRV", 17, 1),
+    ("GVA", 38, 1),
+    ("MPV", 39, 1),
+];
+const HSTATUS: &[(&str, u32, u32)] = &[("GVA", 6, 1), ("SPV", 7, 1), ("SPVP", 8, 1)];
+const SSTATUS: u64 = 0x2_000c_0122;
+
+/// A hart as `show` writes it: V, privilege, pc and the registers by number.
+#[derive(Clone, Debug, Default, PartialEq)]
+struct Shown {
+    place: Vec<u64>,
+    registers: BTreeMap<u64, u64>,
+}
+
+/// An event's line and what is said about it.
+struct Said {
+    text: String,
+    lines: Vec<String>,
+}
+
+fn number(word: &str) -> u64 {
+    u64::from_str_radix(word, 16).unwrap_or_else(|_| panic!("{word} is no number"))
+}
+
+fn name_of(number: u64) -> &'static str {
+    second::registers::find(number).map_or("", |row| row.name)
+}
+
+fn number_of(name: &str) -> u64 {
+    let row = second::registers::ROWS.iter().find(|row| row.name == name);
+    row.unwrap_or_else(|| panic!("{name} is no register"))
+        .number
+}
+
+/// The harts shown and what is said about the events between them, in turn.
+fn read(output: &str) -> (Vec<Shown>, Vec<Said>) {
+    let (mut harts, mut events) = (Vec::new(), Vec::new());
+    for line in output.lines() {
+        let words: Vec<&str> = line.split(' ').collect();
+        let numbers = || words[1..].iter().map(|word| number(word));
+        match words[0] {
+            "hart" => harts.push(Shown {
+                place: numbers().collect(),
+                ..Shown::default()
+            }),
+            "reg" => {
+                let hart: &mut Shown = harts.last_mut().expect("registers follow a hart");
+                hart.registers.insert(number(words[1]), number(words[2]));
+            }
+            "#" if words[1] == "line" => {
+                let text = words[3..].join(" ");
+                let lines = Vec::new();
+                events.push(Said { text, lines });
+            }
+            "#" => {
+                let said: &mut Said = events.last_mut().expect("explanations follow a line");
+                said.lines.push(words[1..].join(" "));
+            }
+            _ => {}
+        }
+    }
+    events.retain(|said| said.text != "show");
+    (harts, events)
+}
+
+/// The hart that an event leaves, by what is said about it.
+fn told(before: &Shown, said: &Said) -> Shown {
+    let mut hart = before.clone();
+    for line in &said.lines {
+        if let Some(parts) = line.strip_prefix("it wrote ") {
+            parts.split("; ").for_each(|part| wrote(&mut hart, part));
+        } else if let Some((register, values)) = line.split_once(") ") {
+            let values = values.split(':').next().unwrap_or("");
+            if let Some((_, new)) = values.split_once(" becomes ") {
+                became(&mut hart, register, number(new));
+            }
+        }
+        if let Some(place) = place(line) {
+            hart.place = place;
+        }
+    }
+    hart
+}
+
+/// `REGISTER VALUE`, or `REGISTER FIELD VALUE, FIELD VALUE ..`.
+fn wrote(hart: &mut Shown, part: &str) {
+    let (name, values) = part.split_once(' ').expect("a register and values");
+    let register = number_of(name);
+    let word = hart.registers.get_mut(&register).expect("it is stored");
+    let fields = if name == "hstatus" { HSTATUS } else { MSTATUS };
+    for value in values.split(", ") {
+        match value.split_once(' ') {
+            None => *word = number(value),
+            Some((field, value)) => {
+                let found = fields.iter().find(|(name, ..)| *name == field);
+                let (_, low, width) = *found.unwrap_or_else(|| panic!("{name} has no {field}"));
+                let mask = ((1 << width) - 1) << low;
+                *word = *word & !mask | number(value) << low;
+            }
+        }
+    }
+}
+
+/// `NAME (NUMBER` and its new content.
+fn became(hart: &mut Shown, register: &str, new: u64) {
+    let (_, register) = register.split_once(" (").expect("a name and a number");
+    match number(register) {
+        0x100 => {
+            let mstatus = hart.registers.get_mut(&0x300).expect("it is stored");
+            *mstatus = *mstatus & !SSTATUS | new;
+        }
+        register => {
+            hart.registers.insert(register, new);
+        }
+    }
+}
+
+/// The mode and pc after `on in MODE at PC` or `goes to MODE at PC`.
+fn place(line: &str) -> Option<Vec<u64>> {
+    let (_, place) = line
+        .split_once(": done, on in ")
+        .or_else(|| line.split_once(" goes to "))?;
+    let (mode, pc) = place.split_once(" at ")?;
+    let (v, privilege) = match mode {
+        "U" => (0, 0),
+        "HS" => (0, 1),
+        "M" => (0, 3),
+        "VU" => (1, 0),
+        _ => (1, 1),
+    };
+    Some(vec![v, privilege, number(pc)])
+}
+
+/// A script with every event between two `show` lines, and no others; up to its bad line.
+fn shown_around(lines: &[Vec<u8>]) -> Vec<u8> {
+    let mut script = Vec::new();
+    for line in lines {
+        let Ok(parsed) = second::script::parse(line) else {
+            break;
+        };
+        let parts = match parsed.as_ref().and_then(event_word) {
+            None => vec![&line[..]],
+            Some("show") => vec![],
+            Some(_) => vec![b"show", &line[..], b"show"],
+        };
+        for part in parts {
+            script.extend(part);
+            script.push(b'\n');
+        }
+    }
+    script
+}
+
+fn explained(folder: &Path, script: &[u8]) -> String {
+    std::fs::write(folder.join("script.replay"), script).expect("the script is written");
+    let output = Command::new(env!("CARGO_BIN_EXE_replay"))
+        .current_dir(folder)
+        .args(["--explain", "script.replay"])
+        .output();
+    String::from_utf8(output.expect("the program ends").stdout).expect("explanations are text")
+}
+
+#[test]
+fn events_write_what_is_said_and_nothing_else() {
+    let folder = Folder::new().expect("a folder is made");
+    let (mut events, mut writes) = (0, 0);
+    for place in 0..40 {
+        let (script, _) = script(9, place, 400, folder.path());
+        let output = explained(folder.path(), &shown_around(&script.lines));
+        let (harts, said) = read(&output);
+        assert_eq!(harts.len(), 2 * said.len());
+        for (pair, said) in harts.chunks_exact(2).zip(&said) {
+            let told = told(&pair[0], said);
+            for (register, word) in &pair[1].registers {
+                let name = name_of(*register);
+                assert_eq!(
+                    told.registers[register], *word,
+                    "{name} after {}",
+                    said.text
+                );
+            }
+            assert_eq!(told.place, pair[1].place, "{}", said.text);
+            events += 1;
+            writes += usize::from(pair[0].registers != pair[1].registers);
+        }
+    }
+    assert!(events > 10_000 && writes > 2_000, "{events} {writes}");
+}
