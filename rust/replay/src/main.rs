@@ -20,7 +20,7 @@ use paint::Paint;
 use run::Stop;
 use std::ffi::OsString;
 use std::fs::File;
-use std::io::{self, BufWriter, Write};
+use std::io::{self, BufWriter, IsTerminal, Write};
 use std::path::{Path, PathBuf};
 use std::process::ExitCode;
 
@@ -50,6 +50,10 @@ Events, each answered on standard output:
 Exit status: 0 the script was run whole, 1 a bad line, 2 a file or the output can't be used.
 docs/REPLAY.md says more.
 ";
+
+/// For someone who sees nothing happen.
+const AT_TERMINAL: &str =
+    "replay: reading a script from the terminal, up to Ctrl-D; ./replay --help says what it may hold";
 
 const VERSION: &str = concat!("replay ", env!("CARGO_PKG_VERSION"), "\n");
 
@@ -100,6 +104,9 @@ fn replay(form: Option<Form>, file: Option<&Path>) -> ExitCode {
         form,
         paint: Paint::for_output(),
     });
+    if file.is_none() && io::stdin().is_terminal() {
+        let _ = writeln!(io::stderr(), "{AT_TERMINAL}");
+    }
     let mut out = BufWriter::with_capacity(1 << 16, io::stdout().lock());
     let ended = match file.map(File::open) {
         None => run::run(io::stdin().lock(), folder, explainer, &mut out),
