@@ -67,7 +67,7 @@ extern "C" {
 #define BALCUMENTRI_NO_PLACE 27
 #define BALCUMENTRI_NO_NUMBER 4096
 
-/* A hart of whose registers no stored bit is set. out: 30 words. */
+/* A hart with this V, privilege and pc, whatever they are, whose registers hold what a write of 0 leaves. out: 30 words. */
 uint64_t balcumentri_reset(uint64_t v, uint64_t privilege, uint64_t pc, uint64_t *out, size_t out_words);
 
 /* Check 2: out[0] is 1 where the hart can be one, else 0. out: 1 word. */

@@ -248,11 +248,11 @@ mod tests {
         for (text, expected) in [
             ("V is 0", None),
             ("mstatus.TVM is 1", Some("mstatus.TVM is 1")),
-            ("no register has the number a", Some("no register has the number *")),
-            ("no register has the number 0a", None),
-            ("no register has the number ", None),
-            ("no register has the number a ", None),
-            ("no register has the number A", None),
+            ("the model has no register a", Some("the model has no register *")),
+            ("the model has no register 0a", None),
+            ("the model has no register ", None),
+            ("the model has no register a ", None),
+            ("the model has no register A", None),
             (
                 "the access: a is not a multiple of 4",
                 Some("the access: * is not a multiple of *"),

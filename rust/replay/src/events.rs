@@ -1,6 +1,6 @@
 //! Events in words: what they came to, what they read and what they wrote.
 
-use crate::explain::{refusal, Explanation, Happened};
+use crate::happened::{refusal, Explanation, Happened};
 use crate::names::{self, place, Mode};
 use crate::reason;
 use crate::registers::{self, HSTATUS, MSTATUS, SSTATUS, VSSTATUS};
@@ -27,11 +27,16 @@ pub fn access(
     }
     let mut explanation = event(happened, &what, accessed.outcome);
     if accessed.outcome == Outcome::Done {
-        explanation.lines.extend(if action.writes() {
-            write_lines(happened.after, reached, action, accessed.value)
+        if action.writes() {
+            let lines = write_lines(happened.after, reached, action, accessed.value);
+            explanation.lines.extend(lines);
         } else {
-            vec![content(reached, accessed.value)]
-        });
+            if !matches!(action, Action::Read) {
+                let line = "told not to write: it counts as a read";
+                explanation.lines.push(line.to_owned());
+            }
+            explanation.lines.push(content(reached, accessed.value));
+        }
     }
     explanation
 }
@@ -88,6 +93,7 @@ pub fn event(happened: &Happened<'_>, what: &str, outcome: Outcome) -> Explanati
         Outcome::Done => {
             let mut lines = vec![format!("{what} in {from}: done, on in {to}")];
             if let Event::Perform(instruction) = happened.event {
+                lines.extend(return_origin(*instruction, happened));
                 lines.extend(return_writes(*instruction, happened));
             }
             Explanation { lines, why: None }
@@ -153,6 +159,29 @@ fn trap_writes(happened: &Happened<'_>) -> String {
             &[0x241, 0x242, 0x243],
         ),
     }
+}
+
+/// Why a return went where it went.
+fn return_origin(instruction: Instruction, happened: &Happened<'_>) -> Option<String> {
+    let before = happened.before;
+    let saved = |register, name| registers::get(register, name, held(before, register));
+    let (mpp, mpv) = (saved(MSTATUS, "MPP"), saved(MSTATUS, "MPV"));
+    let to = Mode::of_hart(happened.after)?;
+    Some(match instruction {
+        Instruction::Mret if mpp == 3 => {
+            format!("to {to}: MPP was 3, with which MPV ({mpv}) does not count; pc from mepc")
+        }
+        Instruction::Mret => format!("to {to}: MPP was {mpp} and MPV {mpv}; pc from mepc"),
+        Instruction::Sret if before.v() == 1 => {
+            let spp = saved(VSSTATUS, "SPP");
+            format!("to {to}: vsstatus.SPP was {spp}; pc from vsepc")
+        }
+        Instruction::Sret => {
+            let (spp, spv) = (saved(MSTATUS, "SPP"), saved(HSTATUS, "SPV"));
+            format!("to {to}: SPP was {spp} and SPV {spv}; pc from sepc")
+        }
+        _ => return None,
+    })
 }
 
 /// What a return wrote.

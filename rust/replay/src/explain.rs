@@ -1,14 +1,13 @@
 //! Answers in words: lines that begin with `# `.
 
 use crate::events;
+use crate::happened::{refusal, Came, Explanation, Happened};
 use crate::names;
 use crate::paint::Paint;
-use crate::reason;
-use crate::run::Came;
 use crate::script::Event;
 use crate::tree;
 use crate::walk::{self, Part, Stage, View, Walk};
-use balcumentri::{Access, Answer, Fault, Hart, Image, Kind, Translation};
+use balcumentri::{Access, Answer, Fault, Kind, Translation};
 use std::io::{self, Write};
 
 /// The instruction word of a fault at a guest entry.
@@ -27,31 +26,6 @@ pub enum Form {
 pub struct Explainer {
     pub form: Form,
     pub paint: Paint,
-}
-
-/// An event that was performed, with all that there is to say about it.
-pub struct Happened<'a> {
-    /// The number and the words of the script's line.
-    pub line: u64,
-    pub text: String,
-    pub event: &'a Event,
-    pub came: &'a Came,
-    pub before: &'a Hart,
-    pub after: &'a Hart,
-    pub image: Image<'a>,
-}
-
-impl Happened<'_> {
-    /// Why it was refused.
-    pub fn refused(&self, number: u64) -> Option<String> {
-        reason::refused(number, self.before, self.image, self.event)
-    }
-}
-
-/// What happened, line by line, and why that was a refusal, a fault or an instruction's trap.
-pub struct Explanation {
-    pub lines: Vec<String>,
-    pub why: Option<String>,
 }
 
 impl Explainer {
@@ -91,10 +65,10 @@ impl Explainer {
         translation: &Translation,
     ) -> Explanation {
         let answer = translation.answer();
-        let ending = self.ending(answer);
+        let ending = self.ending(answer, access.kind);
         if let Answer::Refused(number) = answer {
             return Explanation {
-                lines: vec![bytes_at(access), ending],
+                lines: vec![refused_access(access), ending],
                 why: happened.refused(number),
             };
         }
@@ -116,28 +90,23 @@ impl Explainer {
     }
 
     /// How a translation ended.
-    fn ending(&self, answer: Answer) -> String {
+    fn ending(&self, answer: Answer, kind: Kind) -> String {
         match answer {
             Answer::Address(address) => self
                 .paint
                 .good(&format!("it reaches machine address {address:x}")),
             Answer::Refused(number) => self.paint.bad(&refusal(number)),
-            Answer::Fault(fault) => self.paint.bad(&fault_words(fault)),
+            Answer::Fault(fault) => self.paint.bad(&fault_words(fault, kind)),
         }
     }
 }
 
-pub fn refusal(number: u64) -> String {
-    format!("refused as {number:x}: {}", names::refusal(number))
-}
-
-fn bytes_at(access: Access) -> String {
-    let kind = match access.kind {
+fn kind(access: Access) -> &'static str {
+    match access.kind {
         Kind::Fetch => "fetch",
         Kind::Load => "load",
         Kind::Store => "store",
-    };
-    format!("{kind} of {:x} bytes at {:x}", access.width, access.address)
+    }
 }
 
 /// The access, its effective mode and the stages that are on.
@@ -149,11 +118,24 @@ fn heading(access: Access, view: &View) -> String {
         (true, true) => "both stages are on",
     };
     let by = if view.by_mprv { ", by MPRV" } else { "" };
-    format!("{} as {}{by}; {stages}", bytes_at(access), view.mode)
+    let bytes = if access.width == 1 { "byte" } else { "bytes" };
+    format!(
+        "{} of {:x} {bytes} at {:x} as {}{by}; {stages}",
+        kind(access),
+        access.width,
+        access.address,
+        view.mode
+    )
+}
+
+/// An access whose width may be none.
+fn refused_access(access: Access) -> String {
+    let (kind, width, address) = (kind(access), access.width, access.address);
+    format!("{kind} of width {width:x} at {address:x}")
 }
 
 /// A fault by its name, and what its second value and word say.
-fn fault_words(fault: Fault) -> String {
+fn fault_words(fault: Fault, kind: Kind) -> String {
     let mut words = format!(
         "{}: value {:x}",
         names::titled_cause(fault.cause),
@@ -166,7 +148,12 @@ fn fault_words(fault: Fault) -> String {
         );
     }
     if fault.word == GUEST_ENTRY {
-        words += &format!(", word {GUEST_ENTRY:x} (the hart's own read of a guest entry)");
+        words += &format!(", word {GUEST_ENTRY:x} (the hart's own read of a guest entry");
+        words += match kind {
+            Kind::Fetch => "; the manual has 14 for a fetch)",
+            Kind::Load => ")",
+            Kind::Store => "; the manual has 17 for a store)",
+        };
     }
     words
 }

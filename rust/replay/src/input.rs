@@ -1,6 +1,5 @@
 //! The script's lines.
 
-use crate::run::Stop;
 use crate::script::Mistake;
 use std::io::{self, BufRead, BufReader, Read, Write};
 
@@ -9,6 +8,16 @@ const LONGEST: usize = 0x100_0000;
 
 /// What a NUL byte says: no word and no number has one.
 const NO_TEXT: &str = "a NUL byte: this is no text but a raw image, it seems (or UTF-16); a script names an image by `file BASE PATH`";
+
+/// Why a run ended before the script's end.
+pub enum Stop {
+    /// A bad line, by its number, and what is wrong with it.
+    Bad(u64, Mistake),
+    /// The script can't be read.
+    Script(io::Error),
+    /// The answers can't be written.
+    Answers(io::Error),
+}
 
 /// A script, line by line.
 pub struct Lines<R> {

@@ -3,6 +3,8 @@
 mod events;
 mod explain;
 mod fields;
+mod forms;
+mod happened;
 mod input;
 mod names;
 mod paint;
@@ -16,8 +18,8 @@ mod tree;
 mod walk;
 
 use explain::{Explainer, Form};
+use input::Stop;
 use paint::Paint;
-use run::Stop;
 use std::ffi::OsString;
 use std::fs::File;
 use std::io::{self, BufWriter, IsTerminal, Write};
@@ -47,7 +49,7 @@ Events, each answered on standard output:
 
 --explain adds, after each answer, lines that begin with `# ` and say in words what happened and why;
 --explain=tree draws each translation's walk as a tree.
-Exit status: 0 the script was run whole, 1 a bad line, 2 a file or the output can't be used.
+Exit status: 0 the script was run whole, 1 a bad line, 2 the script or the output can't be used, or the command line is wrong.
 docs/REPLAY.md says more.
 ";
 
@@ -93,7 +95,7 @@ fn request(arguments: impl Iterator<Item = OsString>) -> Result<Request, String>
             _ => file = Some(PathBuf::from(argument)),
         }
     }
-    let file = file.filter(|file| !options || file != Path::new("-"));
+    let file = file.filter(|file| file != Path::new("-"));
     Ok(Request::Run { form, file })
 }
 
@@ -134,7 +136,10 @@ fn replay(form: Option<Form>, file: Option<&Path>) -> ExitCode {
 
 /// The script's name without its folders, printable.
 fn bare_name(path: &Path) -> String {
-    scene::file_name(path).trim_matches('`').to_owned()
+    match path.components().next_back() {
+        Some(name) => suggest::printable(name.as_os_str().as_encoded_bytes()),
+        None => "an empty path".to_owned(),
+    }
 }
 
 /// The answers can't be written; what is still held of them is given up.

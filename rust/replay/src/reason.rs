@@ -47,7 +47,7 @@ fn image_refused(image: Image<'_>) -> Option<String> {
     let end = u128::from(base) + length as u128;
     if length > 0x400_0000 {
         Some(format!(
-            "the image has {length:x} bytes; it may have 4000000"
+            "the image has {length:x} bytes; it may have at most 4000000"
         ))
     } else if !base.is_multiple_of(0x1000) {
         Some(format!(
@@ -59,7 +59,7 @@ fn image_refused(image: Image<'_>) -> Option<String> {
         ))
     } else if end > 1 << 56 {
         Some(format!(
-            "the image ends at {end:x}; it may end at {:x}",
+            "the image ends at {end:x}; it may end at most at {:x}",
             1_u64 << 56
         ))
     } else {
@@ -108,7 +108,7 @@ fn trap_refused(hart: &Hart, trap: &Fault) -> Option<String> {
         _ => (true, ""),
     };
     if names::cause(cause).is_none() {
-        Some(format!("{cause:x} is the number of no cause"))
+        Some(format!("the model has no cause {cause:x}"))
     } else if !arises {
         Some(format!("cause {cause:x} arises in {modes} alone"))
     } else if cause == 22 && !mode.is_guest() {
@@ -156,7 +156,7 @@ fn level(number: u64) -> Level {
 
 fn register_trapped(hart: &Hart, number: u64, writes: bool) -> Option<String> {
     if registers::name(number).is_none() {
-        return Some(format!("no register has the number {number:x}"));
+        return Some(format!("the model has no register {number:x}"));
     }
     let register = registers::title(number);
     // bits 11:10 of a number say that the register can't be written

@@ -119,10 +119,10 @@ pub fn name(number: u64) -> Option<&'static str> {
 
 /// The register with a number, by name and number.
 pub fn title(number: u64) -> String {
-    format!(
-        "{} ({number:x})",
-        name(number).unwrap_or("no listed register")
-    )
+    let Some(name) = name(number) else {
+        return format!("register {number:x}, which the model does not have,");
+    };
+    format!("{name} ({number:x})")
 }
 
 /// The named fields of a register; none where it is one number.
@@ -166,12 +166,16 @@ pub fn stray(number: u64, word: u64) -> Option<(String, u64, String)> {
 
 /// A register's content in words; empty where the number says it all.
 pub fn decoded(number: u64, word: u64) -> String {
-    match find(number).map(|register| &register.shape) {
-        Some(Shape::Fields(fields)) => parts(number, fields, word).join(", "),
-        Some(Shape::Causes) => delegated(word),
-        Some(Shape::Cause) => names::cause(word).unwrap_or("").to_owned(),
-        Some(Shape::Number) | None => String::new(),
+    let mut parts = match find(number).map(|register| &register.shape) {
+        Some(Shape::Fields(fields)) => parts(number, fields, word),
+        Some(Shape::Causes) => vec![delegated(view(number, word))],
+        Some(Shape::Cause) => names::cause(word).map(str::to_owned).into_iter().collect(),
+        Some(Shape::Number) | None => Vec::new(),
+    };
+    if let Some((field, value, may)) = stray(number, word) {
+        parts.push(format!("but {field} is {value:x}, and may hold {may}"));
     }
+    parts.join(", ")
 }
 
 /// The causes that a delegation register hands down.
@@ -191,7 +195,7 @@ fn parts(number: u64, fields: &[Field], word: u64) -> Vec<String> {
     let mut parts = Vec::new();
     for field in fields {
         let value = field.of(word);
-        if field.is_bit() {
+        if field.is_bit() && field.name != "MODE" {
             if value == 1 {
                 parts.push(field.name.to_owned());
             }
@@ -205,7 +209,9 @@ fn parts(number: u64, fields: &[Field], word: u64) -> Vec<String> {
 /// A field's value, with what it stands for.
 fn meaning(number: u64, field: &Field, value: u64) -> String {
     let name = match (field.name, value) {
-        ("MODE", 0) if !field.is_bit() => "Bare",
+        ("MODE", 0) if field.is_bit() => "direct",
+        ("MODE", 1) if field.is_bit() => "vectored; an exception goes to BASE",
+        ("MODE", 0) => "Bare",
         ("MODE", 8) if number == HGATP => "Sv39x4",
         ("MODE", 8) => "Sv39",
         ("MPP", 0) => "U",
@@ -229,11 +235,18 @@ pub fn changes(number: u64, old: u64, new: u64) -> String {
             changes.push(format!("{} {was} to {is}", field.name));
         }
     }
-    if let Some(Shape::Causes) = find(number).map(|register| &register.shape) {
-        for cause in (0..64).filter(|cause| (old ^ new) >> cause & 1 == 1) {
-            let (was, is) = (old >> cause & 1, new >> cause & 1);
-            changes.push(format!("{} {was} to {is}", names::titled_cause(cause)));
+    match find(number).map(|register| &register.shape) {
+        Some(Shape::Causes) => {
+            for cause in (0..64).filter(|cause| (old ^ new) >> cause & 1 == 1) {
+                let (was, is) = (old >> cause & 1, new >> cause & 1);
+                changes.push(format!("{} {was} to {is}", names::titled_cause(cause)));
+            }
         }
+        Some(Shape::Cause) if old != new => {
+            let name = |cause| names::cause(cause).unwrap_or("no cause");
+            changes.push(format!("{} to {}", name(old), name(new)));
+        }
+        _ => {}
     }
     changes.join(", ")
 }
@@ -244,26 +257,62 @@ pub fn ignored(number: u64, asked: u64) -> Option<u64> {
     (matches!(number, SATP | VSATP) && !matches!(mode, 0 | 8)).then_some(mode)
 }
 
-/// What of a write was not stored: a sentence for each field that kept what it held, and one for bits that are always 0.
-/// `asked` is the word that the write asked for, `new` what is stored.
+/// What of a write was not stored: a sentence for each field that kept what it held, and one for bits that are always 0. To write 0
+/// to a field that never changes is common, and asks for nothing. `asked` is the word that the write asked for, `new` what is stored.
 pub fn not_stored(number: u64, asked: u64, new: u64) -> Vec<String> {
     let mut sentences = Vec::new();
-    for field in fields(number).iter().filter(|field| !field.is_constant()) {
-        let value = field.of(asked);
-        if !field.takes(value) {
+    for field in fields(number) {
+        let (value, name) = (field.of(asked), field.name);
+        let (choices, kept) = (field.choices(), meaning(number, field, field.of(new)));
+        if field.takes(value) {
+            continue;
+        }
+        if !field.is_constant() {
             sentences.push(format!(
-                "{} {value:x} is not stored, it may hold {}: it keeps {}",
-                field.name,
-                field.choices(),
-                meaning(number, field, field.of(new))
+                "{name} {value:x} is not stored, it may hold {choices}: it keeps {kept}"
+            ));
+        } else if value != 0 {
+            sentences.push(format!(
+                "{name} {value:x} is not stored: it is always {choices}"
             ));
         }
     }
-    let dropped = asked & !used(number);
-    if dropped != 0 {
-        sentences.push(format!(
-            "bits {dropped:x} are not stored: they are always 0"
-        ));
+    match bits(asked & !used(number)) {
+        (0, _) => {}
+        (1, bit) => sentences.push(format!("bit {bit} is not stored: it is always 0")),
+        (_, bits) => sentences.push(format!("bits {bits} are not stored: they are always 0")),
     }
     sentences
+}
+
+/// How many bits a mask has, and which, as runs from the highest down: `63:54, 4`.
+pub fn bits(mask: u64) -> (u32, String) {
+    let mut runs = Vec::new();
+    let mut left = mask;
+    while left != 0 {
+        let high = 63 - left.leading_zeros();
+        let length = (left << (63 - high)).leading_ones();
+        let low = high + 1 - length;
+        runs.push(if low == high {
+            format!("{high}")
+        } else {
+            format!("{high}:{low}")
+        });
+        left &= !(u64::MAX >> (64 - length) << low);
+    }
+    (mask.count_ones(), runs.join(", "))
+}
+
+#[cfg(test)]
+mod tests {
+    use super::*;
+
+    #[test]
+    fn bits_are_named_in_runs() {
+        assert_eq!(bits(0), (0, String::new()));
+        assert_eq!(bits(2), (1, "1".to_owned()));
+        assert_eq!(bits(1 << 63 | 1), (2, "63, 0".to_owned()));
+        assert_eq!(bits(0x6000_0000_0000_0007), (5, "62:61, 2:0".to_owned()));
+        assert_eq!(bits(u64::MAX), (64, "63:0".to_owned()));
+    }
 }

@@ -1,24 +1,15 @@
 //! Runs a script: one line after the other, an answer for each event.
 
-use crate::explain::{Explainer, Happened};
-use crate::input::Lines;
+use crate::explain::Explainer;
+use crate::happened::{Came, Happened};
+use crate::input::{Lines, Stop};
 use crate::scene::Scene;
 use crate::script::{self, Action, Command, Event, Instruction, Mistake};
-use balcumentri::{Accessed, Answer, Hart, Outcome, Translation};
+use balcumentri::{Answer, Hart, Outcome, Translation};
 use std::ffi::OsStr;
 use std::io::{self, Read, Write};
 use std::os::unix::ffi::OsStrExt;
 use std::path::Path;
-
-/// Why a run ended before the script's end.
-pub enum Stop {
-    /// A bad line, by its number, and what is wrong with it.
-    Bad(u64, Mistake),
-    /// The script can't be read.
-    Script(io::Error),
-    /// The answers can't be written.
-    Answers(io::Error),
-}
 
 /// Runs a script to its end, or to its first bad line. The paths of its `file` lines start from the folder.
 pub fn run(
@@ -51,24 +42,22 @@ pub fn run(
                 }
             }
             Some(command) => {
-                let set = prepare(command, &mut scene, folder);
-                set.map_err(|(word, sentence)| {
-                    lines.bad(Mistake::at(script::offset(line, word), sentence))
-                })?;
+                let set = prepare(command, line, &mut scene, folder);
+                set.map_err(|mistake| lines.bad(mistake))?;
             }
         }
     }
     Ok(())
 }
 
-/// Performs a line that sets the scene. Where it can't: the number of the word that is wrong, and a sentence.
-fn prepare(command: Command, scene: &mut Scene, folder: &Path) -> Result<(), (usize, String)> {
-    let wrong = |word| move |sentence| (word, sentence);
+/// Performs a line that sets the scene.
+fn prepare(command: Command, line: &[u8], scene: &mut Scene, folder: &Path) -> Result<(), Mistake> {
+    let wrong = |word| move |sentence: String| Mistake::at(script::offset(line, word), sentence);
     match command {
         Command::Image { base, length } => scene.clear_image(base, length).map_err(wrong(2)),
-        Command::File { base, path } => {
-            let path = folder.join(OsStr::from_bytes(&path));
-            scene.load_image(base, &path).map_err(wrong(2))
+        Command::File { base, path, at } => {
+            let loaded = scene.load_image(base, folder, Path::new(OsStr::from_bytes(&path)));
+            loaded.map_err(|sentence| Mistake::at(at, sentence))
         }
         Command::Put { address, value } => scene.put(address, value).map_err(wrong(1)),
         Command::Reg { number, value } => scene.hold(number, value).map_err(wrong(1)),
@@ -78,14 +67,6 @@ fn prepare(command: Command, scene: &mut Scene, folder: &Path) -> Result<(), (us
         }
         Command::Event(_) => Ok(()),
     }
-}
-
-/// What an event came to.
-pub enum Came {
-    Translated(Box<Translation>),
-    Accessed(Accessed),
-    Stepped(Outcome),
-    Shown,
 }
 
 /// Performs an event.

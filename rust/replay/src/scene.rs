@@ -4,7 +4,7 @@ use crate::registers;
 use crate::suggest::shown;
 use balcumentri::{Hart, Image};
 use std::fs::File;
-use std::io::Read;
+use std::io::{self, Read};
 use std::path::Path;
 
 /// The largest image that is held, in bytes: 1 GiB.
@@ -48,10 +48,19 @@ impl Scene {
         Ok(())
     }
 
-    /// A new image: the bytes of a file.
-    pub fn load_image(&mut self, base: u64, path: &Path) -> Result<(), String> {
+    /// A new image: the bytes of a file, whose path starts from a folder.
+    pub fn load_image(&mut self, base: u64, folder: &Path, path: &Path) -> Result<(), String> {
         let name = file_name(path);
-        let unreadable = |error| format!("{name} can't be read: {error}");
+        let start = match () {
+            () if path.is_absolute() => "",
+            () if folder.as_os_str().is_empty() => "; its path starts from the working directory",
+            () => "; its path starts from the script's folder",
+        };
+        let unreadable = |error: io::Error| match error.kind() {
+            io::ErrorKind::NotFound => format!("{name} can't be read: {error}{start}"),
+            _ => format!("{name} can't be read: {error}"),
+        };
+        let path = folder.join(path);
         let mut bytes = Vec::new();
         let file = File::open(path).map_err(unreadable)?;
         file.take(LARGEST + 1)
@@ -96,15 +105,13 @@ impl Scene {
                 "sstatus (100) is not stored: it is a view of mstatus (300)".to_owned()
             }
             Some(name) => format!("{name} ({number:x}) is not stored: it is a constant"),
-            None => format!("no register has the number {number:x}"),
+            None => format!("the model has no register {number:x}"),
         })
     }
 }
 
 /// The name of a file without its folders, for a sentence.
 pub fn file_name(path: &Path) -> String {
-    match path.file_name() {
-        Some(name) => shown(name.as_encoded_bytes()),
-        None => "a folder".to_owned(),
-    }
+    let last = path.components().next_back();
+    shown(last.map_or(&[], |last| last.as_os_str().as_encoded_bytes()))
 }

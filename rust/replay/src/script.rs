@@ -1,5 +1,6 @@
 //! The script language: what a line says.
 
+use crate::forms::{value, Form, FORMS, MOST};
 use crate::suggest;
 use balcumentri::{Access, Fault, Kind};
 
@@ -63,11 +64,29 @@ impl Action {
 
 /// What a line asks for.
 pub enum Command {
-    Image { base: u64, length: u64 },
-    File { base: u64, path: Vec<u8> },
-    Put { address: u64, value: u64 },
-    Hart { v: u64, privilege: u64, pc: u64 },
-    Reg { number: u64, value: u64 },
+    Image {
+        base: u64,
+        length: u64,
+    },
+    /// The path begins at an offset of the line.
+    File {
+        base: u64,
+        path: Vec<u8>,
+        at: usize,
+    },
+    Put {
+        address: u64,
+        value: u64,
+    },
+    Hart {
+        v: u64,
+        privilege: u64,
+        pc: u64,
+    },
+    Reg {
+        number: u64,
+        value: u64,
+    },
     Event(Event),
 }
 
@@ -98,44 +117,6 @@ impl Mistake {
     }
 }
 
-/// A first word of a line, and what it takes.
-pub struct Form {
-    pub word: &'static str,
-    takes: &'static [&'static str],
-}
-
-const fn form(word: &'static str, takes: &'static [&'static str]) -> Form {
-    Form { word, takes }
-}
-
-/// The most numbers that a line takes.
-const MOST: usize = 5;
-
-pub const FORMS: [Form; 22] = [
-    form("image", &["BASE", "LENGTH"]),
-    form("file", &["BASE", "PATH"]),
-    form("put", &["ADDRESS", "VALUE"]),
-    form("hart", &["V", "P", "PC"]),
-    form("reg", &["NUMBER", "VALUE"]),
-    form("fetch", &["ADDRESS", "WIDTH"]),
-    form("load", &["ADDRESS", "WIDTH"]),
-    form("store", &["ADDRESS", "WIDTH"]),
-    form("read", &["N"]),
-    form("write", &["N", "VALUE"]),
-    form("set", &["N", "VALUE", "WRITES"]),
-    form("clear", &["N", "VALUE", "WRITES"]),
-    form("trap", &["CAUSE", "VALUE", "SECOND", "WORD", "FLAG"]),
-    form("ecall", &[]),
-    form("ebreak", &[]),
-    form("mret", &[]),
-    form("sret", &[]),
-    form("wfi", &[]),
-    form("sfence.vma", &[]),
-    form("hfence.vvma", &[]),
-    form("hfence.gvma", &[]),
-    form("show", &[]),
-];
-
 /// Reads a line, without its line feed. `None`: nothing but blanks and a comment.
 pub fn parse(line: &[u8]) -> Result<Option<Command>, Mistake> {
     let mut words = Words { line, at: 0 };
@@ -154,11 +135,10 @@ pub fn parse(line: &[u8]) -> Result<Option<Command>, Mistake> {
 /// The offset at which a word of the line begins, the first being number 0.
 pub fn offset(line: &[u8], number: usize) -> usize {
     let mut words = Words { line, at: 0 };
-    let mut found = None;
-    for _ in 0..=number {
-        found = words.next();
-    }
-    found.map_or(line.len(), |(at, _)| at)
+    (0..number).for_each(|_| {
+        words.next();
+    });
+    words.next().map_or(line.len(), |(at, _)| at)
 }
 
 /// The line's words, without blanks and comment around them.
@@ -258,7 +238,7 @@ impl<'a> Words<'a> {
         match self.next() {
             None => Ok(numbers),
             Some((at, more)) => {
-                let sentence = format!("{}; {} is too much", takes(form), suggest::shown(more));
+                let sentence = format!("{}; {} is too much", form.usage(), suggest::shown(more));
                 Err(Mistake::at(at, sentence))
             }
         }
@@ -281,39 +261,22 @@ impl<'a> Words<'a> {
     fn file(&mut self, form: &Form) -> Result<Command, Mistake> {
         let base = self.number(form, "BASE")?;
         let rest = &self.line[self.at..];
-        let after_blank = rest.first().copied().is_some_and(is_blank);
+        let blanks = rest.iter().take_while(|&&byte| is_blank(byte)).count();
         let path = trimmed(rest);
-        if !after_blank || path.is_empty() {
+        if blanks == 0 || path.is_empty() {
             return Err(self.missing(form, "PATH"));
         }
         Ok(Command::File {
             base,
             path: path.to_vec(),
+            at: self.at + blanks,
         })
     }
 
     /// Something is missing where the next word would begin, behind a blank.
     fn missing(&self, form: &Form, name: &str) -> Mistake {
-        Mistake::at(self.at + 1, format!("{}; {name} is missing", takes(form)))
+        Mistake::at(self.at + 1, format!("{}; {name} is missing", form.usage()))
     }
-}
-
-fn takes(form: &Form) -> String {
-    if form.takes.is_empty() {
-        return format!("{} takes no number", form.word);
-    }
-    format!("{} takes {}", form.word, form.takes.join(" "))
-}
-
-/// The number that 1 to 16 hexadecimal digits are.
-pub fn value(word: &[u8]) -> Option<u64> {
-    if word.is_empty() || word.len() > 16 {
-        return None;
-    }
-    word.iter().try_fold(0, |sum, &byte| {
-        let digit = char::from(byte).to_digit(16)?;
-        Some(sum << 4 | u64::from(digit))
-    })
 }
 
 /// Space, tab and carriage return.

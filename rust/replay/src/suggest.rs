@@ -1,7 +1,7 @@
 //! Sentences about words that are none of the language, with what to write instead.
 
+use crate::forms::{value, FORMS};
 use crate::registers;
-use crate::script::{value, FORMS};
 
 /// How many characters of a word or a path a sentence shows.
 const SHOWN: usize = 40;
@@ -11,10 +11,7 @@ const BYTE_ORDER_MARK: &[u8] = b"\xef\xbb\xbf";
 
 /// A word or a name in a sentence: printable, short, in quotes.
 pub fn shown(bytes: &[u8]) -> String {
-    let text = match std::str::from_utf8(bytes) {
-        Ok(text) => text.escape_debug().to_string(),
-        Err(_) => bytes.escape_ascii().to_string(),
-    };
+    let text = printable(bytes);
     let dots = if text.chars().nth(SHOWN).is_some() {
         ".."
     } else {
@@ -24,12 +21,25 @@ pub fn shown(bytes: &[u8]) -> String {
     format!("`{start}{dots}`")
 }
 
+/// Bytes as text, with what nobody could see escaped.
+pub fn printable(bytes: &[u8]) -> String {
+    let escaped = |character: char| match character {
+        '\'' | '"' | '\\' => character.to_string(),
+        _ => character.escape_debug().to_string(),
+    };
+    match std::str::from_utf8(bytes) {
+        Ok(text) => text.chars().map(escaped).collect(),
+        Err(_) => bytes.escape_ascii().to_string(),
+    }
+}
+
 /// A word that begins no line.
 pub fn word(text: &[u8]) -> String {
     if text.starts_with(BYTE_ORDER_MARK) {
         return "a byte-order mark (bytes ef bb bf) stands before the word: save the script without it".to_owned();
     }
-    if text.iter().any(|byte| byte.is_ascii_control()) {
+    let controls = text.iter().filter(|byte| byte.is_ascii_control()).count();
+    if controls > 1 || std::str::from_utf8(text).is_err() {
         return format!(
             "{} is no word but raw bytes: a script is text, and names an image by `file BASE PATH`",
             shown(text)
@@ -40,7 +50,12 @@ pub fn word(text: &[u8]) -> String {
     let hint = if words.iter().any(|word| word.as_bytes() == lower) {
         format!(": words are lower case, {}", shown(&lower))
     } else {
-        meant(&begun(&lower, &words).or(nearest(&lower, &words)))
+        let found = within(&lower, &words);
+        meant(&if found.is_empty() {
+            nearest(&lower, &words)
+        } else {
+            found
+        })
     };
     format!("{} is no word of the language{hint}", shown(text))
 }
@@ -52,7 +67,7 @@ pub fn number(text: &[u8], register: bool) -> String {
     let digits: Vec<u8> = lower
         .iter()
         .copied()
-        .filter(|b| !b"_',".contains(b))
+        .filter(|b| !b"_'".contains(b))
         .collect();
     if let Some(after) = lower
         .strip_prefix(b"0x")
@@ -65,6 +80,9 @@ pub fn number(text: &[u8], register: bool) -> String {
     }
     if value(&digits).is_some() {
         return format!("{bad}a number's digits stand together, {}", shown(&digits));
+    }
+    if text.contains(&b',') {
+        return format!("{bad}numbers are separated by blanks, without commas");
     }
     if register {
         if let Some(hint) = register_number(&lower) {
@@ -80,44 +98,53 @@ pub fn number(text: &[u8], register: bool) -> String {
 /// The number of the register that was named, or almost.
 fn register_number(lower: &[u8]) -> Option<String> {
     let names: Vec<&str> = registers::listed().map(|(_, name)| name).collect();
-    let nearest = nearest(lower, &names)?;
-    let (number, name) = registers::listed().find(|(_, name)| *name == nearest)?;
-    if name.as_bytes() == lower {
-        return Some(format!("registers go by number, and {name} is {number:x}"));
-    }
-    Some(format!("did you mean {name}, which is {number:x}?"))
-}
-
-fn meant(word: &Option<String>) -> String {
-    match word {
-        Some(word) => format!(": did you mean {word}?"),
-        None => String::new(),
-    }
-}
-
-/// The words that a longer beginning is one of.
-fn begun(text: &[u8], words: &[&str]) -> Option<String> {
-    let begun: Vec<&str> = words
-        .iter()
-        .copied()
-        .filter(|word| text.len() > 2 && word.as_bytes().starts_with(text))
+    let near = nearest(lower, &names);
+    let numbered = registers::listed().filter(|(_, name)| near.contains(name));
+    let numbered: Vec<String> = numbered
+        .map(|(number, name)| format!("{name}, which is {number:x}"))
         .collect();
-    (!begun.is_empty()).then(|| begun.join(" or "))
+    match near[..] {
+        [] => None,
+        [name] if name.as_bytes() == lower => {
+            Some(format!("registers go by number: {}", numbered[0]))
+        }
+        _ => Some(format!("did you mean {}?", numbered.join(", or "))),
+    }
 }
 
-/// The word that is one or two slips away, if there is one that is nearest.
-fn nearest(text: &[u8], words: &[&str]) -> Option<String> {
-    let mut slips: Vec<(usize, &str)> = words
-        .iter()
-        .filter(|word| text.len().abs_diff(word.len()) <= 2)
-        .map(|word| (distance(text, word.as_bytes()), *word))
-        .collect();
-    slips.sort();
-    match slips[..] {
-        [(one, _), (other, _), ..] if one == other => None,
-        [(slips, word), ..] if slips <= 2 && 2 * slips < text.len() => Some(word.to_owned()),
-        _ => None,
+fn meant(words: &[&str]) -> String {
+    if words.is_empty() {
+        return String::new();
     }
+    format!(": did you mean {}?", words.join(" or "))
+}
+
+/// The words in which a longer piece stands.
+fn within<'a>(piece: &[u8], words: &[&'a str]) -> Vec<&'a str> {
+    let Ok(piece) = std::str::from_utf8(piece) else {
+        return Vec::new();
+    };
+    let found = words
+        .iter()
+        .filter(|word| piece.len() > 2 && word.contains(piece));
+    found.copied().collect()
+}
+
+/// The words that are one or two slips away, and none nearer.
+fn nearest<'a>(text: &[u8], words: &[&'a str]) -> Vec<&'a str> {
+    let slips = |word: &str| distance(text, word.as_bytes());
+    let near = words
+        .iter()
+        .filter(|word| text.len().abs_diff(word.len()) <= 2);
+    let least = near
+        .clone()
+        .map(|word| slips(word))
+        .min()
+        .unwrap_or(usize::MAX);
+    if least > 2 || 2 * least >= text.len() {
+        return Vec::new();
+    }
+    near.filter(|word| slips(word) == least).copied().collect()
 }
 
 /// How many bytes were changed, left out, added, or exchanged with their neighbour.

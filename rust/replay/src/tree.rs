@@ -83,10 +83,12 @@ fn step_node(paint: Paint, stage: &Stage, steps: &[Step]) -> Option<Node> {
         (None, Some(read)) => format!("{place}: {}", found(paint, stage.part, step, read.value)),
         (Some(through), read) => {
             below.push(stage_node(paint, through));
-            below.extend(read.map(|read| {
-                let found = found(paint, stage.part, step, read.value);
-                leaf(format!("machine {:x}: {found}", read.address))
-            }));
+            let found = read.map_or_else(
+                || paint.bad("outside the image"),
+                |read| found(paint, stage.part, step, read.value),
+            );
+            let machine = step.machine;
+            below.extend(machine.map(|machine| leaf(format!("machine {machine:x}: {found}"))));
             place
         }
     };

@@ -2,7 +2,7 @@
 //! It explains answers and decides none.
 
 use crate::names::Mode;
-use crate::registers::{get, HGATP, MSTATUS, SATP, VSATP, VSSTATUS};
+use crate::registers::{bits, get, HGATP, MSTATUS, SATP, VSATP, VSSTATUS};
 use balcumentri::{Access, Answer, Hart, Kind, Read, Translation};
 use std::fmt;
 use std::slice::Iter;
@@ -102,7 +102,9 @@ pub struct Step {
     pub index: u64,
     /// For a guest entry, its way through the second stage.
     pub through: Option<Stage>,
-    /// What was read, if the walk came so far.
+    /// The entry's machine address, if the walk came so far.
+    pub machine: Option<u64>,
+    /// What was read there, if it lies in the image.
     pub read: Option<Read>,
     /// The rule that the entry breaks.
     pub broken: Option<&'static str>,
@@ -207,6 +209,7 @@ impl Follower<'_> {
                 table,
                 index: index(part, address, level),
                 through: None,
+                machine: None,
                 read: None,
                 broken: None,
             };
@@ -230,6 +233,7 @@ impl Follower<'_> {
             };
             at = self.stage(entry, at, &mut step.through)?;
         }
+        step.machine = Some(at);
         step.read = self.reads.next().copied();
         let Some(read) = step.read else {
             let rule = format!("the entry at {}", outside(at));
@@ -396,12 +400,17 @@ fn target(entry: u64) -> u64 {
     (entry >> 10 & ((1 << 44) - 1)) << 12
 }
 
-/// An entry's flags.
+/// An entry's flags, and which of its reserved bits are set.
 pub fn flags(entry: u64) -> String {
     let letters = "VRWXUGAD".chars().zip(0..);
-    letters
+    let flags: String = letters
         .map(|(letter, bit)| if has(entry, bit) { letter } else { '-' })
-        .collect()
+        .collect();
+    match bits(entry >> 54 << 54) {
+        (0, _) => flags,
+        (1, bit) => format!("{flags} with bit {bit}"),
+        (_, bits) => format!("{flags} with bits {bits}"),
+    }
 }
 
 /// What an entry is. With effective V=1 the first stage's addresses are guest physical.
@@ -422,7 +431,12 @@ pub fn leads(part: Part, level: u64, entry: u64) -> String {
             1 => "2 MiB",
             _ => "1 GiB",
         };
+        if target & ((1 << offset_bits(level)) - 1) != 0 {
+            return format!("a leaf, but no {size} page begins at {guest}{target:x}");
+        }
         format!("a leaf: the {size} page at {guest}{target:x}")
+    } else if level == 0 {
+        "a pointer, where only a leaf may be".to_owned()
     } else {
         format!("a pointer to the table at {guest}{target:x}")
     }

@@ -58,10 +58,10 @@ fn the_pictures() {
     }
 }
 
-/// What the program writes with `--explain`.
-fn text(script: &str) -> String {
+/// What the program writes with an option.
+fn written(option: &str, script: &str) -> String {
     let mut child = Command::new(env!("CARGO_BIN_EXE_replay"))
-        .arg("--explain")
+        .arg(option)
         .stdin(Stdio::piped())
         .stdout(Stdio::piped())
         .spawn()
@@ -77,7 +77,7 @@ fn text(script: &str) -> String {
 
 /// The explanations of a script, without answers and the lines that quote the script.
 fn lines(script: &str) -> Vec<String> {
-    let text = text(script);
+    let text = written("--explain", script);
     let lines = text.lines().filter_map(|line| line.strip_prefix("# "));
     lines
         .filter(|line| !line.starts_with("line "))
@@ -100,7 +100,7 @@ fn writes_that_are_ignored_or_not_stored() {
             "write to hgatp (680) in M at 0: done, on in M at 4",
             "hgatp (680) 8000000000000004 becomes 8000000000000008: PPN 4 (address 4000) to 8 (address 8000)",
             "MODE 5 is not stored, it may hold 0 or 8: it keeps 8 (Sv39x4)",
-            "bits 1 are not stored: they are always 0",
+            "bit 0 is not stored: it is always 0",
         ]
     );
     assert_eq!(
@@ -117,6 +117,7 @@ fn writes_that_are_ignored_or_not_stored() {
             "clear of bits in sstatus (100), which is vsstatus (200) here, in VS at 0: done, on in VS at 4",
             "vsstatus (200) stays 200000000",
             "set of bits in scause (142), which is vscause (242) here, in VS at 4: done, on in VS at 8",
+            "told not to write: it counts as a read",
             "vscause (242) 0: instruction address misaligned",
         ]
     );
@@ -131,6 +132,90 @@ fn an_entry_with_w_and_not_r_is_neither_leaf_nor_pointer() {
         assert!(said[1].ends_with(&entry), "{said:?}");
         assert_eq!(said[3], "why: first stage (satp), level 2: W without R");
     }
+}
+
+#[test]
+fn a_field_that_never_changes_and_bits_by_number() {
+    assert_eq!(
+        lines("write 300 900000011\nwrite 142 d\n")[1..],
+        [
+            "mstatus (300) stays a00000000",
+            "UXL 1 is not stored: it is always 2",
+            "bits 4, 0 are not stored: they are always 0",
+            "write to scause (142) in M at 4: done, on in M at 8",
+            "scause (142) 0 becomes d: instruction address misaligned to load page fault",
+        ]
+    );
+}
+
+#[test]
+fn a_return_says_where_it_came_from() {
+    let line = |script: &str| lines(script)[1].clone();
+    assert_eq!(
+        line("reg 300 8a00000800\nmret\n"),
+        "to VS: MPP was 1 and MPV 1; pc from mepc"
+    );
+    assert_eq!(
+        line("reg 300 8a00001800\nmret\n"),
+        "to M: MPP was 3, with which MPV (1) does not count; pc from mepc"
+    );
+    assert_eq!(
+        line("hart 0 1 0\nreg 600 200000080\nsret\n"),
+        "to VU: SPP was 0 and SPV 1; pc from sepc"
+    );
+    assert_eq!(
+        line("hart 1 1 0\nreg 200 200000100\nsret\n"),
+        "to VS: vsstatus.SPP was 1; pc from vsepc"
+    );
+}
+
+#[test]
+fn entries_that_lead_nowhere() {
+    let script = "image 0 2000\nput 0 1401\nhart 0 1 0\nreg 180 8000000000000000\n";
+    let entry = |put: &str| {
+        let said = lines(&format!("{script}{put}\nload 0 8\n"));
+        let (_, words) = said[said.len() - 3]
+            .split_once(", entry at ")
+            .unwrap_or_default();
+        words.to_owned()
+    };
+    assert_eq!(
+        entry("put 0 4cf"),
+        "0: VRWX--AD, a leaf, but no 1 GiB page begins at 1000"
+    );
+    assert_eq!(
+        entry("put 0 60000000000000cf"),
+        "0: VRWX--AD with bits 62:61, a leaf: the 1 GiB page at 0"
+    );
+    assert_eq!(
+        entry("put 0 401\nput 1000 401"),
+        "1000: V-------, a pointer, where only a leaf may be"
+    );
+}
+
+#[test]
+fn a_hart_that_is_refused_shows_each_wrong_register() {
+    let said = lines("reg 105 3\nreg 302 ffff\nshow\n");
+    let line = |name: &str| said.iter().find(|line| line.starts_with(name)).cloned();
+    assert_eq!(
+        line("stvec").as_deref(),
+        Some("stvec (105) 3: BASE 0, MODE 1 (vectored; an exception goes to BASE), but bit 1 is 1, and may hold 0")
+    );
+    let medeleg = line("medeleg").unwrap_or_default();
+    assert!(
+        medeleg.ends_with("store page fault (f), but bit 11 is 1, and may hold 0"),
+        "{medeleg}"
+    );
+}
+
+#[test]
+fn a_guest_entry_outside_the_image_stands_in_the_picture() {
+    let script = "image 1000 4000\nhart 1 1 0\nreg 680 8000000000000004\nreg 280 8000000000000000\nput 4000 200000df\nstore 0 8\n";
+    let drawn = written("--explain=tree", script);
+    assert!(
+        drawn.contains("└─ machine 80000000: outside the image\n"),
+        "{drawn}"
+    );
 }
 
 #[test]
@@ -152,7 +237,7 @@ fn the_languages_page_shows_what_the_program_writes() {
         "hart 1 1 1000\nreg 302 400\nreg 105 2000\necall\nwrite 180 5000000000000000\n",
         "reg 300 a00001000\nwfi\n",
     ] {
-        let sample = format!("```text\n{}```\n", text(script));
+        let sample = format!("```text\n{}```\n", written("--explain", script));
         assert!(page.contains(&sample), "{sample}");
     }
 }

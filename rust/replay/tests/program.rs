@@ -125,19 +125,22 @@ fn a_bad_line_is_told_by_its_place_and_what_to_write() {
         (b"load 00000000000000000 8", "6: `00000000000000000` is no number: it has 17 digits, and 16 are the most"),
         (b"load -1 8", "6: `-1` is no number: a number is 1 to 16 hexadecimal digits"),
         (b"reg mstatsu 0", "5: `mstatsu` is no number: did you mean mstatus, which is 300?"),
-        (b"read hgatp", "6: `hgatp` is no number: registers go by number, and hgatp is 680"),
+        (b"read hgatp", "6: `hgatp` is no number: registers go by number: hgatp, which is 680"),
         (b"load satp 8", "6: `satp` is no number: a number is 1 to 16 hexadecimal digits"),
         (b"Load 0 8", "1: `Load` is no word of the language: words are lower case, `load`"),
         (b" lod 0 8", "2: `lod` is no word of the language: did you mean load?"),
         (b"hfence", "1: `hfence` is no word of the language: did you mean hfence.vvma or hfence.gvma?"),
         (b"nonsense", "1: `nonsense` is no word of the language"),
         (b"\xef\xbb\xbfshow", "1: a byte-order mark (bytes ef bb bf) stands before the word: save the script without it"),
+        (b"fence", "1: `fence` is no word of the language: did you mean sfence.vma or hfence.vvma or hfence.gvma?"),
+        (b"load 80000000,8", "6: `80000000,8` is no number: numbers are separated by blanks, without commas"),
+        (b"file 0\t #no-such-file", "9: `#no-such-file` can't be read: No such file or directory (os error 2); its path starts from the working directory"),
         (b"set 300 0 2", "11: WRITES is 0 or 1, not 2"),
         (b"trap 2 0 0 0 10", "14: FLAG is 0 or 1, not 10"),
         (b"put 8 0", "5: the eight bytes at 8 don't lie in the image, which is empty"),
         (b"reg 100 0", "5: sstatus (100) is not stored: it is a view of mstatus (300)"),
         (b"reg e12 0", "5: hgeip (e12) is not stored: it is a constant"),
-        (b"reg 123 0", "5: no register has the number 123"),
+        (b"reg 123 0", "5: the model has no register 123"),
         (b"image 0 1000000000000000", "9: an image of 1000000000000000 bytes is more than this program holds"),
     ] {
         assert_eq!(sentence(line), told, "{}", line.escape_ascii());
@@ -298,6 +301,8 @@ fn options() {
         (&[], "ok\n"),
         (&["-"], "ok\n"),
         (&["--"], "ok\n"),
+        (&["-", "--"], "ok\n"),
+        (&["--", "-"], "ok\n"),
         (&["--explain", "-"], "ok\n# line 1: wfi\n"),
         (
             &["--explain=tree", "--", "/dev/stdin"],
@@ -309,16 +314,8 @@ fn options() {
         assert_eq!(output.status.code(), Some(0), "{arguments:?}");
         assert!(text.starts_with(begins), "{arguments:?}: {text}");
     }
-    for arguments in [&["-"][..], &["--", "-"], &["--", "--explain"]] {
-        let output = Command::new(env!("CARGO_BIN_EXE_replay"))
-            .args(arguments)
-            .current_dir("/")
-            .stdin(Stdio::null())
-            .output();
-        let status = output.expect("the program ends").status.code();
-        let expected = if arguments.len() == 1 { 0 } else { 2 };
-        assert_eq!(status, Some(expected), "{arguments:?}");
-    }
+    let output = replay(&["--", "--explain"], b"wfi\n");
+    assert_eq!(output.status.code(), Some(2), "a file of that name");
 }
 
 /// Runs a script from a file; the program may write as much as it likes.

@@ -70,7 +70,10 @@ fn finish<R: Read>(writing: Writing, input: R, folder: PathBuf) -> ExitCode {
         Err(Trouble::Output(error)) => {
             // What is still in the buffer can't be written either: forget it.
             let _ = output.into_parts();
-            complain(&format!("the answers can't be written: {error}"));
+            // A reader that went away needs no sentence.
+            if error.kind() != io::ErrorKind::BrokenPipe {
+                complain(&format!("the answers can't be written: {error}"));
+            }
             ExitCode::from(2)
         }
     }

@@ -106,7 +106,7 @@ impl Display for BadImage {
             BadImage::TooLarge(length) => {
                 write!(
                     text,
-                    "the image has {length:x} bytes; it may have {LARGEST:x}"
+                    "the image has {length:x} bytes; it may have at most {LARGEST:x}"
                 )
             }
             BadImage::Base(base) => {
@@ -122,7 +122,7 @@ impl Display for BadImage {
             BadImage::End(end) => {
                 write!(
                     text,
-                    "the image ends at {end:x}; it may end at {END_LIMIT:x}"
+                    "the image ends at {end:x}; it may end at most at {END_LIMIT:x}"
                 )
             }
         }
@@ -145,7 +145,7 @@ impl Display for BadAccess {
 impl Display for BadRequest {
     fn fmt(&self, text: &mut Formatter) -> Result {
         match self {
-            BadRequest::Cause(cause) => write!(text, "{cause:x} is the number of no cause"),
+            BadRequest::Cause(cause) => write!(text, "the model has no cause {cause:x}"),
             BadRequest::FromElsewhere(cause) => {
                 let modes = modes_of_call(*cause);
                 write!(text, "cause {cause:x} arises in {modes} alone")
@@ -180,7 +180,7 @@ fn modes_of_call(cause: u64) -> &'static str {
 impl Display for Forbidden {
     fn fmt(&self, text: &mut Formatter) -> Result {
         match self {
-            Forbidden::Unlisted(number) => write!(text, "no register has the number {number:x}"),
+            Forbidden::Unlisted(number) => write!(text, "the model has no register {number:x}"),
             Forbidden::ReadOnly(row) => {
                 write!(text, "{} ({:x}) is read-only", row.name, row.number)
             }

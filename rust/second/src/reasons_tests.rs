@@ -86,7 +86,7 @@ fn an_image_is_refused() {
     check(&[
         (
             "image 1 4000001;load 0 3",
-            "the image has 4000001 bytes; it may have 4000000",
+            "the image has 4000001 bytes; it may have at most 4000000",
         ),
         (
             "image 801 fff;load 0 3",
@@ -98,7 +98,7 @@ fn an_image_is_refused() {
         ),
         (
             "image fffffffffffff000 2000;fetch 0 3",
-            "the image ends at 10000000000001000; it may end at 100000000000000",
+            "the image ends at 10000000000001000; it may end at most at 100000000000000",
         ),
     ]);
 }
@@ -112,7 +112,7 @@ fn the_hart_comes_before_the_image_and_the_image_before_the_access() {
         ),
         (
             "image 100000000000000 1000;fetch 0 3",
-            "the image ends at 100000000001000; it may end at 100000000000000",
+            "the image ends at 100000000001000; it may end at most at 100000000000000",
         ),
         ("hart 0 3 2;read 1000", "pc 2 is not a multiple of 4"),
         ("hart 0 3 2;trap e 0 0 0 0", "pc 2 is not a multiple of 4"),
@@ -135,7 +135,7 @@ fn an_access_is_refused() {
 #[test]
 fn a_trap_request_is_refused() {
     check(&[
-        ("trap e 1 1 1 1", "e is the number of no cause"),
+        ("trap e 1 1 1 1", "the model has no cause e"),
         ("trap 8 1 1 1 1", "cause 8 arises in U and VU alone"),
         ("trap 9 1 1 1 1", "cause 9 arises in HS alone"),
         ("trap a 1 1 1 1", "cause a arises in VS alone"),
@@ -159,7 +159,7 @@ fn a_trap_request_is_refused() {
 fn an_access_to_a_register_is_refused_or_traps() {
     check(&[
         ("read 1000", "register number 1000 is over fff"),
-        ("read fff", "no register has the number fff"),
+        ("read fff", "the model has no register fff"),
         ("hart 1 0 0;write e12 0", "hgeip (e12) is read-only"),
         ("hart 1 0 0;read e12", "hgeip (e12) is out of reach in VU"),
         ("hart 0 0 0;read 100", "sstatus (100) is out of reach in U"),

@@ -1,0 +1,44 @@
+//! What an event came to, and what there is to say about it.
+
+use crate::names;
+use crate::reason;
+use crate::script::Event;
+use balcumentri::{Accessed, Hart, Image, Outcome, Translation};
+
+/// What an event came to.
+pub enum Came {
+    Translated(Box<Translation>),
+    Accessed(Accessed),
+    Stepped(Outcome),
+    Shown,
+}
+
+/// An event that was performed, with all that there is to say about it.
+pub struct Happened<'a> {
+    /// The number and the words of the script's line.
+    pub line: u64,
+    pub text: String,
+    pub event: &'a Event,
+    pub came: &'a Came,
+    pub before: &'a Hart,
+    pub after: &'a Hart,
+    pub image: Image<'a>,
+}
+
+impl Happened<'_> {
+    /// Why it was refused.
+    pub fn refused(&self, number: u64) -> Option<String> {
+        reason::refused(number, self.before, self.image, self.event)
+    }
+}
+
+/// What happened, line by line, and why that was a refusal, a fault or an instruction's trap.
+pub struct Explanation {
+    pub lines: Vec<String>,
+    pub why: Option<String>,
+}
+
+/// A refusal by its number.
+pub fn refusal(number: u64) -> String {
+    format!("refused as {number:x}: {}", names::refusal(number))
+}
