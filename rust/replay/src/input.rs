@@ -57,11 +57,10 @@ impl<R: Read> Lines<R> {
             }
             let end = held.iter().position(|&byte| byte == b'\n');
             let piece = &held[..end.unwrap_or(held.len())];
-            let checked = check(piece, self.line.len(), &mut self.commented);
-            self.line.extend_from_slice(piece);
+            let extended = extend(&mut self.line, piece, &mut self.commented);
             let used = piece.len() + usize::from(end.is_some());
             self.input.consume(used);
-            checked.map_err(|mistake| self.bad(mistake))?;
+            extended.map_err(|mistake| self.bad(mistake))?;
             if end.is_some() {
                 return Ok(true);
             }
@@ -84,18 +83,22 @@ impl<R: Read> Lines<R> {
     }
 }
 
-/// Refuses a line that is too long or is no text by its next piece, which begins at `from`: its end may never come.
-fn check(piece: &[u8], from: usize, commented: &mut bool) -> Result<(), Mistake> {
+/// Extends a line by its next piece. One that is too long or is no text is refused at once: its end may never come.
+fn extend(line: &mut Vec<u8>, piece: &[u8], commented: &mut bool) -> Result<(), Mistake> {
     let comment = piece.iter().position(|&byte| byte == b'#');
     let words = &piece[..comment.unwrap_or(piece.len())];
     let nul = words.iter().position(|&byte| byte == 0);
     if let (Some(at), false) = (nul, *commented) {
-        return Err(Mistake::at(from + at, NO_TEXT));
+        return Err(Mistake::at(line.len() + at, NO_TEXT));
     }
     *commented |= comment.is_some();
-    if from + piece.len() > LONGEST {
+    if line.len() + piece.len() > LONGEST {
         let sentence = format!("the line has more than {LONGEST:x} (hexadecimal) bytes");
         return Err(Mistake::at(LONGEST, sentence));
     }
+    if line.try_reserve(piece.len()).is_err() {
+        return Err(Mistake::at(line.len(), "there is no memory for the line"));
+    }
+    line.extend_from_slice(piece);
     Ok(())
 }

@@ -1,5 +1,6 @@
 //! `replay`: runs a replay script through the proved hart model.
 
+mod descriptor;
 mod events;
 mod explain;
 mod fields;
@@ -17,6 +18,7 @@ mod suggest;
 mod tree;
 mod walk;
 
+use descriptor::Descriptor;
 use explain::{Explainer, Form};
 use input::Stop;
 use paint::Paint;
@@ -69,10 +71,10 @@ enum Request {
 
 fn main() -> ExitCode {
     match request(std::env::args_os().skip(1)) {
-        Ok(Request::Say(text)) => match io::stdout().write_all(text.as_bytes()) {
-            Ok(()) => ExitCode::SUCCESS,
-            Err(error) => unwritten(&error),
-        },
+        Ok(Request::Say(text)) => {
+            let written = Descriptor::output().and_then(|mut out| out.write_all(text.as_bytes()));
+            written.map_or_else(|error| unwritten(&error), |()| ExitCode::SUCCESS)
+        }
         Ok(Request::Run { form, file }) => replay(form, file.as_deref()),
         Err(why) => fail(&format!("replay: {why}; see ./replay --help"), 2),
     }
@@ -109,11 +111,17 @@ fn replay(form: Option<Form>, file: Option<&Path>) -> ExitCode {
     if file.is_none() && io::stdin().is_terminal() {
         let _ = writeln!(io::stderr(), "{AT_TERMINAL}");
     }
-    let mut out = BufWriter::with_capacity(1 << 16, io::stdout().lock());
-    let ended = match file.map(File::open) {
-        None => run::run(io::stdin().lock(), folder, explainer, &mut out),
-        Some(Ok(script)) => run::run(script, folder, explainer, &mut out),
-        Some(Err(error)) => Err(Stop::Script(error)),
+    let mut out = match Descriptor::output() {
+        Ok(out) => BufWriter::with_capacity(1 << 16, out),
+        Err(error) => return unwritten(&error),
+    };
+    let ended = match file {
+        None => Descriptor::input()
+            .map_err(Stop::Script)
+            .and_then(|script| run::run(script, folder, explainer, &mut out)),
+        Some(path) => File::open(path)
+            .map_err(Stop::Script)
+            .and_then(|script| run::run(script, folder, explainer, &mut out)),
     };
     let (why, status) = match ended {
         Ok(()) => (None, 0),

@@ -56,7 +56,7 @@ fn prepare(command: Command, line: &[u8], scene: &mut Scene, folder: &Path) -> R
     match command {
         Command::Image { base, length } => scene.clear_image(base, length).map_err(wrong(2)),
         Command::File { base, path, at } => {
-            let loaded = scene.load_image(base, folder, Path::new(OsStr::from_bytes(&path)));
+            let loaded = scene.load_image(base, folder, Path::new(OsStr::from_bytes(path)));
             loaded.map_err(|sentence| Mistake::at(at, sentence))
         }
         Command::Put { address, value } => scene.put(address, value).map_err(wrong(1)),

@@ -10,6 +10,9 @@ use std::path::Path;
 /// The largest image that is held, in bytes: 1 GiB.
 const LARGEST: u64 = 0x4000_0000;
 
+/// The longest path that can name a file, in bytes.
+const LONGEST_PATH: usize = 4096;
+
 /// The image and the hart that the events meet.
 pub struct Scene {
     base: u64,
@@ -60,6 +63,9 @@ impl Scene {
             io::ErrorKind::NotFound => format!("{name} can't be read: {error}{start}"),
             _ => format!("{name} can't be read: {error}"),
         };
+        if path.as_os_str().len() > LONGEST_PATH {
+            return Err(format!("{name} can't be read: its path is too long"));
+        }
         let path = folder.join(path);
         let mut bytes = Vec::new();
         let file = File::open(path).map_err(unreadable)?;

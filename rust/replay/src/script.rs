@@ -63,7 +63,7 @@ impl Action {
 }
 
 /// What a line asks for.
-pub enum Command {
+pub enum Command<'a> {
     Image {
         base: u64,
         length: u64,
@@ -71,7 +71,7 @@ pub enum Command {
     /// The path begins at an offset of the line.
     File {
         base: u64,
-        path: Vec<u8>,
+        path: &'a [u8],
         at: usize,
     },
     Put {
@@ -118,7 +118,7 @@ impl Mistake {
 }
 
 /// Reads a line, without its line feed. `None`: nothing but blanks and a comment.
-pub fn parse(line: &[u8]) -> Result<Option<Command>, Mistake> {
+pub fn parse(line: &[u8]) -> Result<Option<Command<'_>>, Mistake> {
     let mut words = Words { line, at: 0 };
     let Some((at, word)) = words.next() else {
         return Ok(None);
@@ -152,7 +152,7 @@ pub fn text(line: &[u8]) -> String {
 }
 
 /// What a word says with its numbers.
-fn command(word: &str, [a, b, c, d, e]: [u64; MOST]) -> Command {
+fn command(word: &str, [a, b, c, d, e]: [u64; MOST]) -> Command<'static> {
     let access = |kind| {
         Event::Translate(Access {
             kind,
@@ -258,7 +258,7 @@ impl<'a> Words<'a> {
     }
 
     /// The path is the rest of the line, `#` and inner blanks included.
-    fn file(&mut self, form: &Form) -> Result<Command, Mistake> {
+    fn file(&mut self, form: &Form) -> Result<Command<'a>, Mistake> {
         let base = self.number(form, "BASE")?;
         let rest = &self.line[self.at..];
         let blanks = rest.iter().take_while(|&&byte| is_blank(byte)).count();
@@ -268,7 +268,7 @@ impl<'a> Words<'a> {
         }
         Ok(Command::File {
             base,
-            path: path.to_vec(),
+            path,
             at: self.at + blanks,
         })
     }

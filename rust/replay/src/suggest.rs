@@ -11,7 +11,8 @@ const BYTE_ORDER_MARK: &[u8] = b"\xef\xbb\xbf";
 
 /// A word or a name in a sentence: printable, short, in quotes.
 pub fn shown(bytes: &[u8]) -> String {
-    let text = printable(bytes);
+    // no character has more than four bytes
+    let text = printable(&bytes[..bytes.len().min(4 * SHOWN + 4)]);
     let dots = if text.chars().nth(SHOWN).is_some() {
         ".."
     } else {
@@ -21,13 +22,17 @@ pub fn shown(bytes: &[u8]) -> String {
     format!("`{start}{dots}`")
 }
 
-/// Bytes as text, with what nobody could see escaped.
+/// Bytes as text, with what nobody could see escaped; a character that is cut off at their end is left out.
 pub fn printable(bytes: &[u8]) -> String {
     let escaped = |character: char| match character {
         '\'' | '"' | '\\' => character.to_string(),
         _ => character.escape_debug().to_string(),
     };
-    match std::str::from_utf8(bytes) {
+    let whole = match std::str::from_utf8(bytes) {
+        Err(error) if error.error_len().is_none() => &bytes[..error.valid_up_to()],
+        _ => bytes,
+    };
+    match std::str::from_utf8(whole) {
         Ok(text) => text.chars().map(escaped).collect(),
         Err(_) => bytes.escape_ascii().to_string(),
     }
@@ -45,7 +50,7 @@ pub fn word(text: &[u8]) -> String {
             shown(text)
         );
     }
-    let lower = text.to_ascii_lowercase();
+    let lower = text[..text.len().min(SHOWN)].to_ascii_lowercase();
     let words: Vec<&str> = FORMS.iter().map(|form| form.word).collect();
     let hint = if words.iter().any(|word| word.as_bytes() == lower) {
         format!(": words are lower case, {}", shown(&lower))
@@ -63,7 +68,7 @@ pub fn word(text: &[u8]) -> String {
 /// A word where a number belongs, which may be that of a register.
 pub fn number(text: &[u8], register: bool) -> String {
     let bad = format!("{} is no number: ", shown(text));
-    let lower = text.to_ascii_lowercase();
+    let lower = text[..text.len().min(SHOWN)].to_ascii_lowercase();
     let digits: Vec<u8> = lower
         .iter()
         .copied()

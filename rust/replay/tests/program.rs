@@ -341,6 +341,41 @@ fn a_reader_that_goes_away() {
     assert_eq!(output.stderr, b"", "a closed pipe is silent");
 }
 
+/// A descriptor that is open the wrong way round is no empty script and takes no answers.
+#[test]
+fn descriptors_that_cannot_be_used() {
+    let null = |write: bool| {
+        let mut options = std::fs::File::options();
+        options
+            .read(!write)
+            .write(write)
+            .open("/dev/null")
+            .expect("it is opened")
+    };
+    let run = |stdin: std::fs::File, stdout: std::fs::File| {
+        let mut command = Command::new(env!("CARGO_BIN_EXE_replay"));
+        let output = command.stdin(stdin).stdout(stdout).output();
+        let output = output.expect("the program ends");
+        (
+            output.status.code(),
+            String::from_utf8_lossy(&output.stderr).into_owned(),
+        )
+    };
+    assert_eq!(run(null(false), null(true)), (Some(0), String::new()));
+    let (status, said) = run(null(true), null(true));
+    assert_eq!(status, Some(2));
+    assert!(
+        said.starts_with("replay: standard input can't be read"),
+        "{said}"
+    );
+    let (_, said) = run(null(false), null(false));
+    assert_eq!(said, "", "an empty script has no answer to write");
+    let mut command = Command::new(env!("CARGO_BIN_EXE_replay"));
+    let output = command.arg("--version").stdout(null(false)).output();
+    let output = output.expect("the program ends");
+    assert_eq!(output.status.code(), Some(2));
+}
+
 #[cfg(target_os = "linux")]
 #[test]
 fn answers_that_cannot_be_written() {

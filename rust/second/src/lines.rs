@@ -54,6 +54,9 @@ impl<R: Read> Lines<R> {
             if nul_before_comment(piece, &mut comment) {
                 return Ok(Some(Err(looks_raw())));
             }
+            if self.line.try_reserve(piece.len()).is_err() {
+                return Ok(Some(Err(no_memory())));
+            }
             self.line.extend(piece);
             let at_end = bytes.is_empty();
             self.unread.start += piece.len() + usize::from(newline.is_some());
@@ -94,6 +97,10 @@ fn nul_before_comment(piece: &[u8], comment: &mut bool) -> bool {
 
 fn too_long() -> Bad {
     Bad(format!("the line is longer than {LONGEST_LINE:x} bytes"))
+}
+
+fn no_memory() -> Bad {
+    Bad("there is no memory for the line".to_string())
 }
 
 /// A NUL byte outside a comment makes any line bad: as a word, as a number and in a path.
