@@ -15,7 +15,7 @@ const GUEST_ENTRY: u64 = 0x3000;
 
 /// How a translation is explained.
 #[derive(Clone, Copy, PartialEq, Eq)]
-pub enum Form {
+pub enum Style {
     /// A line for each entry.
     Words,
     /// A picture.
@@ -24,7 +24,7 @@ pub enum Form {
 
 /// Says answers in words.
 pub struct Explainer {
-    pub form: Form,
+    pub style: Style,
     pub paint: Paint,
 }
 
@@ -81,9 +81,9 @@ impl Explainer {
         let walk = walk::follow(&view, access, translation);
         let heading = heading(access, &view);
         Explanation {
-            lines: match self.form {
-                Form::Words => walk_lines(heading, &walk, ending),
-                Form::Tree => tree::drawn(self.paint, heading, &walk, ending),
+            lines: match self.style {
+                Style::Words => walk_lines(heading, &walk, ending),
+                Style::Tree => tree::drawn(self.paint, heading, &walk, ending),
             },
             why: walk.stop.map(|stop| stop.to_string()),
         }

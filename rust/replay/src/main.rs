@@ -19,7 +19,7 @@ mod tree;
 mod walk;
 
 use descriptor::Descriptor;
-use explain::{Explainer, Form};
+use explain::{Explainer, Style};
 use input::Stop;
 use paint::Paint;
 use std::ffi::OsString;
@@ -64,7 +64,7 @@ const VERSION: &str = concat!("replay ", env!("CARGO_PKG_VERSION"), "\n");
 enum Request {
     Say(&'static str),
     Run {
-        form: Option<Form>,
+        style: Option<Style>,
         file: Option<PathBuf>,
     },
 }
@@ -75,21 +75,21 @@ fn main() -> ExitCode {
             let written = Descriptor::output().and_then(|mut out| out.write_all(text.as_bytes()));
             written.map_or_else(|error| unwritten(&error), |()| ExitCode::SUCCESS)
         }
-        Ok(Request::Run { form, file }) => replay(form, file.as_deref()),
+        Ok(Request::Run { style, file }) => replay(style, file.as_deref()),
         Err(why) => fail(&format!("replay: {why}; see ./replay --help"), 2),
     }
 }
 
 fn request(arguments: impl Iterator<Item = OsString>) -> Result<Request, String> {
-    let (mut form, mut file, mut options) = (None, None, true);
+    let (mut style, mut file, mut options) = (None, None, true);
     for argument in arguments {
         let text = argument.as_encoded_bytes();
         match text {
             b"--" if options => options = false,
             b"-h" | b"--help" if options => return Ok(Request::Say(HELP)),
             b"--version" if options => return Ok(Request::Say(VERSION)),
-            b"--explain" if options => form = Some(Form::Words),
-            b"--explain=tree" if options => form = Some(Form::Tree),
+            b"--explain" if options => style = Some(Style::Words),
+            b"--explain=tree" if options => style = Some(Style::Tree),
             [b'-', _, ..] if options => {
                 return Err(format!("{} is no option", suggest::shown(text)));
             }
@@ -98,14 +98,14 @@ fn request(arguments: impl Iterator<Item = OsString>) -> Result<Request, String>
         }
     }
     let file = file.filter(|file| file != Path::new("-"));
-    Ok(Request::Run { form, file })
+    Ok(Request::Run { style, file })
 }
 
-fn replay(form: Option<Form>, file: Option<&Path>) -> ExitCode {
+fn replay(style: Option<Style>, file: Option<&Path>) -> ExitCode {
     let name = file.map_or("standard input".to_owned(), bare_name);
     let folder = file.and_then(Path::parent).unwrap_or(Path::new(""));
-    let explainer = form.map(|form| Explainer {
-        form,
+    let explainer = style.map(|style| Explainer {
+        style,
         paint: Paint::for_output(),
     });
     if file.is_none() && io::stdin().is_terminal() {
