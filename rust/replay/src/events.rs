@@ -135,13 +135,13 @@ fn delegation(happened: &Happened<'_>) -> &'static str {
 /// What a trap wrote, by where it went.
 fn trap_writes(happened: &Happened<'_>) -> String {
     let from_guest = happened.before.v() == 1;
-    match (happened.after.v(), happened.after.privilege()) {
-        (0, 3) => wrote(
+    match Mode::of_hart(happened.after) {
+        Some(Mode::M) => wrote(
             happened.after,
             &[(MSTATUS, &["MPV", "MPP", "MPIE", "MIE", "GVA"])],
             &[0x341, 0x342, 0x343, 0x34b, 0x34a],
         ),
-        (0, _) => {
+        Some(Mode::Hs) => {
             let saved: &[&str] = if from_guest {
                 &["SPV", "SPVP", "GVA"]
             } else {
@@ -187,9 +187,9 @@ fn return_origin(instruction: Instruction, happened: &Happened<'_>) -> Option<St
 /// What a return wrote.
 fn return_writes(instruction: Instruction, happened: &Happened<'_>) -> Option<String> {
     let before = happened.before;
-    let from_machine = registers::get(MSTATUS, "MPP", held(before, MSTATUS)) == 3;
+    let to_machine = registers::get(MSTATUS, "MPP", held(before, MSTATUS)) == 3;
     let status: &[(u64, &[&str])] = match instruction {
-        Instruction::Mret if from_machine => &[(MSTATUS, &["MIE", "MPIE", "MPP", "MPV"])],
+        Instruction::Mret if to_machine => &[(MSTATUS, &["MIE", "MPIE", "MPP", "MPV"])],
         Instruction::Mret => &[(MSTATUS, &["MIE", "MPIE", "MPP", "MPV", "MPRV"])],
         Instruction::Sret if before.v() == 1 => &[(VSSTATUS, &["SIE", "SPIE", "SPP"])],
         Instruction::Sret => &[
