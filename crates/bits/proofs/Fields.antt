@@ -86,7 +86,7 @@ get-apart f g n h a =
     (λ o. let e : f .low - (g .low + g .width) + g .width + g .low ≡ f .low = omega arith in
     subst (λ (l : ℕ). get g (n * 2 ^ l) ≡ 0) e (above g (f .low - (g .low + g .width)) n)) a
 
-ones-bound : (f : Field) → Fits f → ones f < 2 ^ 64
+pub ones-bound : (f : Field) → Fits f → ones f < 2 ^ 64
 ones-bound f h =
     let w : f .width + f .low ≤ 64 = omega (arith, h .sum) in
     lt-of-lt-of-le (shl-lt (f .width) (f .low) (ones-lt (f .width))) (pow-mono w)

@@ -6,3 +6,4 @@ pub mod Tests
 pub mod Assign
 pub mod Every
 pub mod Tested
+pub mod Single

@@ -1,14 +1,17 @@
 // Control and status register access: what it gives and what it writes.
 ghost use mathlib.Core.Path.{_≡_};
 ghost use Rattle.csr.specs.Access.{overRange, verdict, combined};
+ghost use Prim.Native.Nat.{_<_};
 ghost use Rattle.bits.specs.Field.{pick};
-ghost use Rattle.registers.specs.Rules.{stored};
+ghost use Rattle.registers.specs.Views.{shown, storedBy};
+ghost use Rattle.table.specs.Table.{viewOf};
 use privilege::Context;
 use privilege::Verdict;
 use registers::fields::TVM;
 use registers::fields::VTVM;
 use registers::rules;
 use table::Row;
+use table::kept::Kept;
 
 pub enum Form {
     Read,
@@ -52,10 +55,21 @@ pub fn combine(form: Form, old: u64, w: u64) -> u64
     }
 }
 
-// What a place holds after an access that writes x to the bits of a mask, or does not write; old is held before.
-pub fn store(place: usize, mask: u64, old: u64, x: u64, writes: bool) -> u64
-    ensures { λ r. ⌜ r ≡ pick writes (stored place mask old x) old ⌝ }
+// What a read shows of a register's home, of which the gate lets some bits through.
+pub fn show(at: Kept, gate: u64, word: u64) -> u64
+    requires { ⌜ at .shift < 64 ⌝ }
+    ensures { λ r. ⌜ r ≡ shown (viewOf at 0) gate word ⌝ }
 {
-    let new = (old & !mask) | (x & mask);
-    bits::select(writes, rules::take(place, old, new), old)
+    ((word & gate) >> at.shift) & at.shows
+}
+
+// What the home holds after an access that writes x to the register's bits of a mask, or does not write; old is held before.
+pub fn store(at: Kept, mask: u64, gate: u64, old: u64, x: u64, writes: bool) -> u64
+    requires { ⌜ at .shift < 64 ⌝ }
+    ensures { λ r. ⌜ r ≡ pick writes (storedBy (viewOf at mask) gate old x) old ⌝ }
+{
+    let here = mask << at.shift;
+    let through = (old & !gate) | ((x << at.shift) & gate);
+    let new = (old & !here) | (through & here);
+    bits::select(writes, rules::take(at.home, old, new), old)
 }

@@ -1,6 +1,6 @@
-// Where a trap goes, the cause of an environment call, and a breakpoint.
+// Where a trap goes and what pc becomes there, the cause of an environment call, and a breakpoint.
 ghost use mathlib.Core.Path.{_≡_};
-ghost use Rattle.delivery.specs.Delivery.{target, callCause, breakpoint};
+ghost use Rattle.delivery.specs.Delivery.{target, handler, callCause, breakpoint};
 use exceptions::Exception;
 use privilege::Context;
 
@@ -21,6 +21,17 @@ pub fn delivers_to(c: Context, medeleg: u64, hedeleg: u64, cause: u64) -> Target
         return Target::VS;
     }
     Target::HS
+}
+
+// What pc becomes at the target: tvec's base, and for an interrupt, where tvec is vectored, 4 times the cause behind it.
+pub fn handler(tvec: u64, cause: u64) -> u64
+    ensures { λ r. ⌜ r ≡ handler tvec cause ⌝ }
+{
+    let base = tvec - tvec % 4;
+    if bits::has(63, cause) & bits::has(0, tvec) {
+        return std::num::wrapping_add_u64(base, cause << 2);
+    }
+    base
 }
 
 // The cause of an environment call, by mode.

@@ -85,3 +85,32 @@ VMID = span 57 44
 
 abbrev pub PPN : Field
 PPN = span 43 0
+
+-- mip and mie, and where it has them mideleg, hideleg and the views: "numbers and other bits are as the manual has them" (2026-01).
+-- Of S, VS and M the software, timer and external interrupts.
+abbrev pub SSI : Field
+SSI = bit 1
+
+abbrev pub VSSI : Field
+VSSI = bit 2
+
+abbrev pub MSI : Field
+MSI = bit 3
+
+abbrev pub STI : Field
+STI = bit 5
+
+abbrev pub VSTI : Field
+VSTI = bit 6
+
+abbrev pub MTI : Field
+MTI = bit 7
+
+abbrev pub SEI : Field
+SEI = bit 9
+
+abbrev pub VSEI : Field
+VSEI = bit 10
+
+abbrev pub MEI : Field
+MEI = bit 11

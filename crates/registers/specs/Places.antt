@@ -1,9 +1,10 @@
--- The registers that a hart keeps, each at its place: all but sstatus and hgeip, in rising order of number.
+-- The registers that a hart keeps, each at its place, in rising order of number: all but the views of others, as sstatus, and the
+-- constants hgeie and hgeip.
 use Prim.Native.Nat.{ℕ}
 
 -- how many they are
 abbrev pub kept : ℕ
-kept = 27
+kept = 31
 
 abbrev pub stvec : ℕ
 stvec = 0
@@ -50,38 +51,50 @@ mstatus = 13
 abbrev pub medeleg : ℕ
 medeleg = 14
 
+abbrev pub mideleg : ℕ
+mideleg = 15
+
+abbrev pub mie : ℕ
+mie = 16
+
 abbrev pub mtvec : ℕ
-mtvec = 15
+mtvec = 17
 
 abbrev pub mscratch : ℕ
-mscratch = 16
+mscratch = 18
 
 abbrev pub mepc : ℕ
-mepc = 17
+mepc = 19
 
 abbrev pub mcause : ℕ
-mcause = 18
+mcause = 20
 
 abbrev pub mtval : ℕ
-mtval = 19
+mtval = 21
+
+abbrev pub mip : ℕ
+mip = 22
 
 abbrev pub mtinst : ℕ
-mtinst = 20
+mtinst = 23
 
 abbrev pub mtval2 : ℕ
-mtval2 = 21
+mtval2 = 24
 
 abbrev pub hstatus : ℕ
-hstatus = 22
+hstatus = 25
 
 abbrev pub hedeleg : ℕ
-hedeleg = 23
+hedeleg = 26
+
+abbrev pub hideleg : ℕ
+hideleg = 27
 
 abbrev pub htval : ℕ
-htval = 24
+htval = 28
 
 abbrev pub htinst : ℕ
-htinst = 25
+htinst = 29
 
 abbrev pub hgatp : ℕ
-hgatp = 26
+hgatp = 30

@@ -1,16 +1,14 @@
--- The twenty-nine registers, each with its number, level and view (document 01, "Twenty-nine registers").
+-- The registers, each with its number, level and view (document 01, "Twenty-nine registers", and the twelve of 2026-01).
 use mathlib.Core.Bool.{Bool, true, false}
 use mathlib.Core.List.{List, [], _∷_}
 use Prim.Native.Nat.{ℕ}
 use lib.ListN.{getD}
-use Rattle.bits.specs.Field.{top, bits}
-use Rattle.registers.specs.Fields.{SIE, SPIE, SPP, SUM, MXR, UXL}
-use Rattle.registers.specs.Places.{stvec, sscratch, sepc, scause, stval, satp, vsstatus, vstvec, vsscratch, vsepc, vscause, vstval, vsatp, mstatus, medeleg, mtvec, mscratch, mepc, mcause, mtval, mtinst, mtval2, hstatus, hedeleg, htval, htinst, hgatp}
-use Rattle.registers.specs.Rules.{rule}
+use Rattle.registers.specs.Places.{stvec, sscratch, sepc, scause, stval, satp, vsstatus, vstvec, vsscratch, vsepc, vscause, vstval, vsatp, mstatus, medeleg, mideleg, mie, mtvec, mscratch, mepc, mcause, mtval, mtinst, mtval2, hstatus, hedeleg, hideleg, htval, htinst, hgatp}
+use Rattle.registers.specs.Views.{View, whole, status-view, no-bits, pending, guest-enabled, guest-pending, guest-injected, enabled-S, pending-S, enabled-VS, pending-VS}
 
 -- how many they are
 abbrev pub count : ℕ
-count = 29
+count = 41
 
 -- the level that a number belongs to: S; VS and H; M
 abbrev pub supervisor : ℕ
@@ -21,24 +19,6 @@ hypervisor = 2
 
 abbrev pub machine : ℕ
 machine = 3
-
--- How a register is seen and written: the place where its bits are kept, those that a read shows and those that a write stores.
-pub record View : Type 0 where
-  pub home : ℕ
-  pub shows : ℕ
-  pub writes : ℕ
-
--- the register that is kept at a place
-abbrev pub whole : ℕ → View
-whole p = record { home = p; shows = top; writes = rule p .mask }
-
--- "sstatus is mstatus's SIE, SPIE, SPP, SUM, MXR and UXL"; UXL reads 2
-abbrev pub status-view : View
-status-view = record { home = mstatus; shows = bits (SIE ∷ SPIE ∷ SPP ∷ SUM ∷ MXR ∷ UXL ∷ []); writes = bits (SIE ∷ SPIE ∷ SPP ∷ SUM ∷ MXR ∷ []) }
-
--- "read-only, 0": no bit of any place
-abbrev pub no-bits : View
-no-bits = record { home = 0; shows = 0; writes = 0 }
 
 -- A register: its own view, and what its number reaches in VS (twin).
 pub record Register : Type 0 where
@@ -62,31 +42,43 @@ readOnly n l v = record { number = n; level = l; read-only = true; view = v; twi
 abbrev pub registers : List Register
 registers =
     twinned 0x100 status-view (whole vsstatus) ∷  -- sstatus
+    twinned 0x104 enabled-S enabled-VS ∷  -- sie
     twinned 0x105 (whole stvec) (whole vstvec) ∷
     twinned 0x140 (whole sscratch) (whole vsscratch) ∷
     twinned 0x141 (whole sepc) (whole vsepc) ∷
     twinned 0x142 (whole scause) (whole vscause) ∷
     twinned 0x143 (whole stval) (whole vstval) ∷
+    twinned 0x144 pending-S pending-VS ∷  -- sip
     twinned 0x180 (whole satp) (whole vsatp) ∷
     register 0x200 hypervisor (whole vsstatus) ∷
+    register 0x204 hypervisor enabled-VS ∷  -- vsie
     register 0x205 hypervisor (whole vstvec) ∷
     register 0x240 hypervisor (whole vsscratch) ∷
     register 0x241 hypervisor (whole vsepc) ∷
     register 0x242 hypervisor (whole vscause) ∷
     register 0x243 hypervisor (whole vstval) ∷
+    register 0x244 hypervisor pending-VS ∷  -- vsip
     register 0x280 hypervisor (whole vsatp) ∷
     register 0x300 machine (whole mstatus) ∷
     register 0x302 machine (whole medeleg) ∷
+    register 0x303 machine (whole mideleg) ∷
+    register 0x304 machine (whole mie) ∷
     register 0x305 machine (whole mtvec) ∷
     register 0x340 machine (whole mscratch) ∷
     register 0x341 machine (whole mepc) ∷
     register 0x342 machine (whole mcause) ∷
     register 0x343 machine (whole mtval) ∷
+    register 0x344 machine pending ∷  -- mip
     register 0x34a machine (whole mtinst) ∷
     register 0x34b machine (whole mtval2) ∷
     register 0x600 hypervisor (whole hstatus) ∷
     register 0x602 hypervisor (whole hedeleg) ∷
+    register 0x603 hypervisor (whole hideleg) ∷
+    register 0x604 hypervisor guest-enabled ∷  -- hie
+    register 0x607 hypervisor no-bits ∷  -- hgeie
     register 0x643 hypervisor (whole htval) ∷
+    register 0x644 hypervisor guest-pending ∷  -- hip
+    register 0x645 hypervisor guest-injected ∷  -- hvip
     register 0x64a hypervisor (whole htinst) ∷
     register 0x680 hypervisor (whole hgatp) ∷
     readOnly 0xe12 hypervisor no-bits ∷  -- hgeip

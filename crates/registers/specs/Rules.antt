@@ -1,6 +1,6 @@
--- What each register that a hart keeps stores of a write, and so what it can hold (document 01, "Stored bits").
+-- What each register that a hart keeps stores of a write, and so what it can hold (document 01, "Stored bits"; 2026-01).
 use mathlib.Core.Bool.{Bool, true, false, _&&_, _||_}
-use mathlib.Core.List.{List, [], _∷_}
+use mathlib.Core.List.{List, [], _∷_, _++_}
 use Prim.Native.Nat.{ℕ, _-_}
 use lib.Bits.{bitAnd}
 use lib.Dec.{eqb}
@@ -8,7 +8,7 @@ use lib.ListN.{getD}
 use Rattle.bits.specs.declared.Field.{Field}
 use Rattle.bits.specs.Field.{pick, span, bit, top, bits, get, put, copy}
 use Rattle.bits.specs.Assign.{_:=_, _after_}
-use Rattle.registers.specs.Fields.{SIE, MIE, SPIE, MPIE, SPP, MPP, MPRV, SUM, MXR, TVM, TW, TSR, GVA, MPV, UXL, SXL, HGVA, SPV, SPVP, HU, VTVM, VTW, VTSR, VSXL, MODE, VMID}
+use Rattle.registers.specs.Fields.{SIE, MIE, SPIE, MPIE, SPP, MPP, MPRV, SUM, MXR, TVM, TW, TSR, GVA, MPV, UXL, SXL, HGVA, SPV, SPVP, HU, VTVM, VTW, VTSR, VSXL, MODE, VMID, SSI, VSSI, MSI, STI, VSTI, MTI, SEI, VSEI, MEI}
 
 -- a field that takes only some values: where a write has another, the field keeps what it held, or the whole write is ignored
 pub data Restriction : Type 0 where
@@ -18,7 +18,7 @@ pub data Restriction : Type 0 where
 
 -- what a register stores
 pub record Rule : Type 0 where
-  pub mask : ℕ  -- the stored bits
+  pub mask : ℕ  -- the stored bits: those that a write stores, to it or to a view of it, or that come in with the hart
   pub fixed : ℕ  -- what the other bits read
   pub restriction : Restriction
 
@@ -85,6 +85,28 @@ stores-satp = record { mask = top; fixed = 0; restriction = ignores MODE (0 ∷ 
 abbrev pub stores-hgatp : Rule
 stores-hgatp = record { mask = bits (MODE ∷ VMID ∷ span 43 2 ∷ []); fixed = 0; restriction = keeps MODE (0 ∷ 8 ∷ []) }
 
+-- the interrupts of S, of VS and of M: software, timer and external
+abbrev pub ofS : List Field
+ofS = SSI ∷ STI ∷ SEI ∷ []
+
+abbrev pub ofVS : List Field
+ofVS = VSSI ∷ VSTI ∷ VSEI ∷ []
+
+abbrev pub ofM : List Field
+ofM = MSI ∷ MTI ∷ MEI ∷ []
+
+-- "Bits 2, 6 and 10 of mideleg read one; 1, 5 and 9 can be written."
+abbrev pub stores-mideleg : Rule
+stores-mideleg = stores (bits ofS) (bits ofVS)
+
+-- hideleg: 2, 6 and 10
+abbrev pub stores-hideleg : Rule
+stores-hideleg = stores (bits ofVS) 0
+
+-- mie, and mip: "mip's bits 3, 7 and 11 come in with the hart, pass check 2 and can't be written" (what can: `registers`)
+abbrev pub stores-interrupts : Rule
+stores-interrupts = stores (bits (ofS ++ (ofVS ++ ofM))) 0
+
 -- all others: 64 bits
 abbrev pub stores-word : Rule
 stores-word = stores top 0
@@ -107,15 +129,19 @@ rules =
     stores-satp ∷  -- vsatp
     stores-mstatus ∷  -- mstatus
     stores-medeleg ∷  -- medeleg
+    stores-mideleg ∷  -- mideleg
+    stores-interrupts ∷  -- mie
     stores-tvec ∷  -- mtvec
     stores-word ∷  -- mscratch
     stores-epc ∷  -- mepc
     stores-word ∷  -- mcause
     stores-word ∷  -- mtval
+    stores-interrupts ∷  -- mip
     stores-word ∷  -- mtinst
     stores-word ∷  -- mtval2
     stores-hstatus ∷  -- hstatus
     stores-hedeleg ∷  -- hedeleg
+    stores-hideleg ∷  -- hideleg
     stores-word ∷  -- htval
     stores-word ∷  -- htinst
     stores-hgatp ∷  -- hgatp

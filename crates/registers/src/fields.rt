@@ -57,3 +57,22 @@ pub const MODE: Field = Field { low: 60, width: 4 };
 pub const VMID: Field = Field { low: 44, width: 14 };
 
 pub const PPN: Field = Field { low: 0, width: 44 };
+
+// mip and mie, and where it has them mideleg, hideleg and the views: of S, VS and M the software, timer and external interrupts.
+pub const SSI: Field = Field { low: 1, width: 1 };
+
+pub const VSSI: Field = Field { low: 2, width: 1 };
+
+pub const MSI: Field = Field { low: 3, width: 1 };
+
+pub const STI: Field = Field { low: 5, width: 1 };
+
+pub const VSTI: Field = Field { low: 6, width: 1 };
+
+pub const MTI: Field = Field { low: 7, width: 1 };
+
+pub const SEI: Field = Field { low: 9, width: 1 };
+
+pub const VSEI: Field = Field { low: 10, width: 1 };
+
+pub const MEI: Field = Field { low: 11, width: 1 };

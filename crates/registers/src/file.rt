@@ -12,6 +12,7 @@ pub fn reset() -> [u64; places::KEPT]
     let mut regs = [0u64; places::KEPT];
     regs[places::VSSTATUS] = masks::STATUS_FIXED;
     regs[places::MSTATUS] = masks::MSTATUS_FIXED;
+    regs[places::MIDELEG] = masks::VS_INTERRUPTS;
     regs[places::HSTATUS] = masks::HSTATUS_FIXED;
     regs
 }
@@ -26,10 +27,18 @@ pub fn pass(r: [u64; places::KEPT]) -> bool
     let m = rules::machine_legal(
         r[places::MSTATUS],
         r[places::MEDELEG],
+        r[places::MIDELEG],
+        r[places::MIE],
         r[places::MTVEC],
         r[places::MEPC],
+        r[places::MIP],
     );
-    let h = rules::hypervisor_legal(r[places::HSTATUS], r[places::HEDELEG], r[places::HGATP]);
+    let h = rules::hypervisor_legal(
+        r[places::HSTATUS],
+        r[places::HEDELEG],
+        r[places::HIDELEG],
+        r[places::HGATP],
+    );
     let guest = vsstatus & vs;
     s & (guest & (m & h))
 }

@@ -2,18 +2,24 @@
 use crate::fields::GVA;
 use crate::fields::HGVA;
 use crate::fields::HU;
+use crate::fields::MEI;
 use crate::fields::MIE;
 use crate::fields::MODE;
 use crate::fields::MPIE;
 use crate::fields::MPP;
 use crate::fields::MPRV;
 use crate::fields::MPV;
+use crate::fields::MSI;
+use crate::fields::MTI;
 use crate::fields::MXR;
+use crate::fields::SEI;
 use crate::fields::SIE;
 use crate::fields::SPIE;
 use crate::fields::SPP;
 use crate::fields::SPV;
 use crate::fields::SPVP;
+use crate::fields::SSI;
+use crate::fields::STI;
 use crate::fields::SUM;
 use crate::fields::SXL;
 use crate::fields::TSR;
@@ -21,6 +27,9 @@ use crate::fields::TVM;
 use crate::fields::TW;
 use crate::fields::UXL;
 use crate::fields::VMID;
+use crate::fields::VSEI;
+use crate::fields::VSSI;
+use crate::fields::VSTI;
 use crate::fields::VSXL;
 use crate::fields::VTSR;
 use crate::fields::VTVM;
@@ -69,3 +78,21 @@ pub const HSTATUS_FIXED: u64 = 2 << VSXL.low;
 
 // what sstatus shows of mstatus
 pub const SSTATUS: u64 = STATUS | 3 << UXL.low;
+
+// S's interrupts: what mideleg writes and sie shows.
+pub const S_INTERRUPTS: u64 = 1 << SSI.low | 1 << STI.low | 1 << SEI.low;
+
+// VS's: what mideleg has always, hideleg writes and hie shows.
+pub const VS_INTERRUPTS: u64 = 1 << VSSI.low | 1 << VSTI.low | 1 << VSEI.low;
+
+// what mie writes and mip can hold
+pub const INTERRUPTS: u64 =
+    S_INTERRUPTS | VS_INTERRUPTS | 1 << MSI.low | 1 << MTI.low | 1 << MEI.low;
+
+// what a write to mip writes
+pub const MIP: u64 = S_INTERRUPTS | 1 << VSSI.low;
+
+// what a write to sip or vsip writes, and to hip
+pub const SIP: u64 = 1 << SSI.low;
+
+pub const HIP: u64 = 1 << VSSI.low;

@@ -1,7 +1,8 @@
-// The registers that a hart keeps, each at its place: all but sstatus and hgeip, in rising order of number.
+// The registers that a hart keeps, each at its place, in rising order of number: all but the views of others, as sstatus, and the
+// constants hgeie and hgeip.
 
 // How many they are.
-pub const KEPT: usize = 27;
+pub const KEPT: usize = 31;
 
 pub const STVEC: usize = 0;
 
@@ -33,26 +34,34 @@ pub const MSTATUS: usize = 13;
 
 pub const MEDELEG: usize = 14;
 
-pub const MTVEC: usize = 15;
+pub const MIDELEG: usize = 15;
 
-pub const MSCRATCH: usize = 16;
+pub const MIE: usize = 16;
 
-pub const MEPC: usize = 17;
+pub const MTVEC: usize = 17;
 
-pub const MCAUSE: usize = 18;
+pub const MSCRATCH: usize = 18;
 
-pub const MTVAL: usize = 19;
+pub const MEPC: usize = 19;
 
-pub const MTINST: usize = 20;
+pub const MCAUSE: usize = 20;
 
-pub const MTVAL2: usize = 21;
+pub const MTVAL: usize = 21;
 
-pub const HSTATUS: usize = 22;
+pub const MIP: usize = 22;
 
-pub const HEDELEG: usize = 23;
+pub const MTINST: usize = 23;
 
-pub const HTVAL: usize = 24;
+pub const MTVAL2: usize = 24;
 
-pub const HTINST: usize = 25;
+pub const HSTATUS: usize = 25;
 
-pub const HGATP: usize = 26;
+pub const HEDELEG: usize = 26;
+
+pub const HIDELEG: usize = 27;
+
+pub const HTVAL: usize = 28;
+
+pub const HTINST: usize = 29;
+
+pub const HGATP: usize = 30;

@@ -7,7 +7,7 @@ ghost use lib.Bits.{bitAnd};
 ghost use lib.Dec.{eqb};
 ghost use Rattle.bits.specs.Field.{top, get};
 ghost use Rattle.registers.specs.Fields.{MPP, MODE};
-ghost use Rattle.registers.specs.Rules.{among, taken, legal, rule, stores-mstatus, stores-status, stores-hstatus, stores-hedeleg, stores-medeleg, stores-tvec, stores-epc, stores-satp, stores-hgatp};
+ghost use Rattle.registers.specs.Rules.{among, taken, legal, rule, stores-mstatus, stores-status, stores-hstatus, stores-hedeleg, stores-medeleg, stores-mideleg, stores-hideleg, stores-interrupts, stores-tvec, stores-epc, stores-satp, stores-hgatp};
 use crate::fields::MODE;
 use crate::fields::MPP;
 use crate::masks;
@@ -64,21 +64,32 @@ pub fn supervisor_legal(tvec: u64, epc: u64, satp: u64) -> bool
 }
 
 // The M registers that can't hold every word.
-pub fn machine_legal(mstatus: u64, medeleg: u64, tvec: u64, epc: u64) -> bool
-    ensures { λ r. ⌜ r ≡ (legal stores-mstatus mstatus && (legal stores-medeleg medeleg && (legal stores-tvec tvec && legal stores-epc epc))) ⌝ }
+pub fn machine_legal(
+    mstatus: u64,
+    medeleg: u64,
+    mideleg: u64,
+    mie: u64,
+    tvec: u64,
+    epc: u64,
+    mip: u64,
+) -> bool
+    ensures { λ r. ⌜ r ≡ (legal stores-mstatus mstatus && (legal stores-medeleg medeleg && (legal stores-mideleg mideleg && (legal stores-interrupts mie && (legal stores-tvec tvec && (legal stores-epc epc && legal stores-interrupts mip)))))) ⌝ }
 {
     let status = mpp_fits(mstatus) & masked(masks::MSTATUS, masks::MSTATUS_FIXED, mstatus);
-    let vectors = masked(masks::TVEC, 0, tvec) & masked(masks::EPC, 0, epc);
-    status & (masked(masks::MEDELEG, 0, medeleg) & vectors)
+    let pending = masked(masks::EPC, 0, epc) & masked(masks::INTERRUPTS, 0, mip);
+    let enabled = masked(masks::INTERRUPTS, 0, mie) & (masked(masks::TVEC, 0, tvec) & pending);
+    let delegated = masked(masks::S_INTERRUPTS, masks::VS_INTERRUPTS, mideleg) & enabled;
+    status & (masked(masks::MEDELEG, 0, medeleg) & delegated)
 }
 
 // The H registers that can't hold every word.
-pub fn hypervisor_legal(hstatus: u64, hedeleg: u64, hgatp: u64) -> bool
-    ensures { λ r. ⌜ r ≡ (legal stores-hstatus hstatus && (legal stores-hedeleg hedeleg && legal stores-hgatp hgatp)) ⌝ }
+pub fn hypervisor_legal(hstatus: u64, hedeleg: u64, hideleg: u64, hgatp: u64) -> bool
+    ensures { λ r. ⌜ r ≡ (legal stores-hstatus hstatus && (legal stores-hedeleg hedeleg && (legal stores-hideleg hideleg && legal stores-hgatp hgatp))) ⌝ }
 {
     let modes = mode_fits(hgatp) & masked(masks::HGATP, 0, hgatp);
-    masked(masks::HSTATUS, masks::HSTATUS_FIXED, hstatus)
-        & (masked(masks::HEDELEG, 0, hedeleg) & modes)
+    let delegated = masked(masks::HEDELEG, 0, hedeleg)
+        & (masked(masks::VS_INTERRUPTS, 0, hideleg) & modes);
+    masked(masks::HSTATUS, masks::HSTATUS_FIXED, hstatus) & delegated
 }
 
 // vsstatus.

@@ -3,7 +3,8 @@ use mathlib.Core.Path.{_≡_, sym, ap, _∙_}
 use Prim.Native.Nat.{ℕ, _<_}
 use native.Mathlib.Omega.{arith}
 use lib.ListN.{List·getD-map}
-use Rattle.registers.specs.Registers.{count, no-bits, register, registers, at}
+use Rattle.registers.specs.Views.{no-bits}
+use Rattle.registers.specs.Registers.{count, register, registers, at}
 use Rattle.table.specs.declared.Row.{Row}
 use Rattle.table.specs.declared.Found.the-variants.{At}
 use Rattle.table.specs.Table.{rowOf, table, firstAt}

@@ -1,4 +1,4 @@
--- One constant table of twenty-nine rows, one for each register (document 01), its search, and where each row's bits are kept.
+-- One constant table of rows, one for each register (document 01), its search, and where each row's bits are kept.
 use mathlib.Core.Bool.{Bool}
 use mathlib.Core.List.{List, [], _∷_, map}
 use Prim.Native.Nat.{ℕ, suc, _+_}
@@ -6,7 +6,8 @@ use lib.Dec.{eqb, ltb}
 use lib.ListN.{getD}
 use Rattle.bits.specs.Field.{pick, top}
 use Rattle.registers.specs.Places.{kept}
-use Rattle.registers.specs.Registers.{supervisor, View, Register, registers}
+use Rattle.registers.specs.Views.{View}
+use Rattle.registers.specs.Registers.{supervisor, Register, registers}
 use Rattle.table.specs.declared.Row.{Row}
 use Rattle.table.specs.declared.Found.{Found}
 use Rattle.table.specs.declared.Found.the-variants.{At, Nothing}
@@ -30,7 +31,10 @@ reached guest r = pick guest (r .twin) (r .view)
 
 -- a view, but for the bits that it writes: these are the row's mask
 abbrev pub keptOf : View → Kept
-keptOf v = record { home = v .home; shows = v .shows }
+keptOf v = record { home = v .home; shift = v .shift; shows = v .shows; gate = v .gate }
+
+abbrev pub viewOf : Kept → (writes : ℕ) → View
+viewOf k writes = record { home = k .home; shift = k .shift; shows = k .shows; writes = writes; gate = k .gate }
 
 -- where the register with a number stands
 abbrev pub rowNumbered : ℕ → List Register → ℕ

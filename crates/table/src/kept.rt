@@ -8,47 +8,126 @@ use crate::ROWS;
 use registers::masks;
 use registers::places;
 
-// Where a register's bits are kept, and those of them that a read shows.
+// Where a register's bits are kept and how far up they stand there, those that a read shows, and the place of the register that lets
+// them through, or that of none: KEPT.
 pub struct Kept {
     pub home: usize,
+    pub shift: u64,
     pub shows: u64,
+    pub gate: usize,
 }
 
-// By row: the place of its bits, and those that it shows. hgeip has none.
+const UNGATED: u8 = places::KEPT as u8;
+
+// By row: the place of its bits. hgeie and hgeip have none.
 const HOMES: [u8; ROWS] = [
     places::MSTATUS as u8,
+    places::MIE as u8,
     places::STVEC as u8,
     places::SSCRATCH as u8,
     places::SEPC as u8,
     places::SCAUSE as u8,
     places::STVAL as u8,
+    places::MIP as u8,
     places::SATP as u8,
     places::VSSTATUS as u8,
+    places::MIE as u8,
     places::VSTVEC as u8,
     places::VSSCRATCH as u8,
     places::VSEPC as u8,
     places::VSCAUSE as u8,
     places::VSTVAL as u8,
+    places::MIP as u8,
     places::VSATP as u8,
     places::MSTATUS as u8,
     places::MEDELEG as u8,
+    places::MIDELEG as u8,
+    places::MIE as u8,
     places::MTVEC as u8,
     places::MSCRATCH as u8,
     places::MEPC as u8,
     places::MCAUSE as u8,
     places::MTVAL as u8,
+    places::MIP as u8,
     places::MTINST as u8,
     places::MTVAL2 as u8,
     places::HSTATUS as u8,
     places::HEDELEG as u8,
+    places::HIDELEG as u8,
+    places::MIE as u8,
+    0,
     places::HTVAL as u8,
+    places::MIP as u8,
+    places::MIP as u8,
     places::HTINST as u8,
     places::HGATP as u8,
     0,
 ];
 
+// How far up they stand there.
+const SHIFTS: [u8; ROWS] = [
+    0,
+    0,
+    0,
+    0,
+    0,
+    0,
+    0,
+    0,
+    0,
+    0,
+    1,
+    0,
+    0,
+    0,
+    0,
+    0,
+    1,
+    0,
+    0,
+    0,
+    0,
+    0,
+    0,
+    0,
+    0,
+    0,
+    0,
+    0,
+    0,
+    0,
+    0,
+    0,
+    0,
+    0,
+    0,
+    0,
+    0,
+    0,
+    0,
+    0,
+    0,
+];
+
+// Those that it shows.
 const SHOWS: [u64; ROWS] = [
     masks::SSTATUS,
+    masks::S_INTERRUPTS,
+    masks::WORD,
+    masks::WORD,
+    masks::WORD,
+    masks::WORD,
+    masks::WORD,
+    masks::S_INTERRUPTS,
+    masks::WORD,
+    masks::WORD,
+    masks::S_INTERRUPTS,
+    masks::WORD,
+    masks::WORD,
+    masks::WORD,
+    masks::WORD,
+    masks::WORD,
+    masks::S_INTERRUPTS,
     masks::WORD,
     masks::WORD,
     masks::WORD,
@@ -65,31 +144,72 @@ const SHOWS: [u64; ROWS] = [
     masks::WORD,
     masks::WORD,
     masks::WORD,
+    masks::VS_INTERRUPTS,
+    0,
     masks::WORD,
-    masks::WORD,
-    masks::WORD,
-    masks::WORD,
-    masks::WORD,
-    masks::WORD,
-    masks::WORD,
-    masks::WORD,
-    masks::WORD,
+    masks::VS_INTERRUPTS,
+    masks::VS_INTERRUPTS,
     masks::WORD,
     masks::WORD,
     0,
 ];
 
-// By row: the one that its number reaches with V=1, for S numbers that of the VS register.
+// The place of its gate.
+const GATES: [u8; ROWS] = [
+    UNGATED,
+    places::MIDELEG as u8,
+    UNGATED,
+    UNGATED,
+    UNGATED,
+    UNGATED,
+    UNGATED,
+    places::MIDELEG as u8,
+    UNGATED,
+    UNGATED,
+    places::HIDELEG as u8,
+    UNGATED,
+    UNGATED,
+    UNGATED,
+    UNGATED,
+    UNGATED,
+    places::HIDELEG as u8,
+    UNGATED,
+    UNGATED,
+    UNGATED,
+    UNGATED,
+    UNGATED,
+    UNGATED,
+    UNGATED,
+    UNGATED,
+    UNGATED,
+    UNGATED,
+    UNGATED,
+    UNGATED,
+    UNGATED,
+    UNGATED,
+    UNGATED,
+    UNGATED,
+    UNGATED,
+    UNGATED,
+    UNGATED,
+    UNGATED,
+    UNGATED,
+    UNGATED,
+    UNGATED,
+    UNGATED,
+];
+
+// The row that its number reaches with V=1, for S numbers that of the VS register.
 const TWINS: [u8; ROWS] = [
-    7,
-    8,
     9,
     10,
     11,
     12,
     13,
-    7,
-    8,
+    14,
+    15,
+    16,
+    17,
     9,
     10,
     11,
@@ -110,6 +230,18 @@ const TWINS: [u8; ROWS] = [
     26,
     27,
     28,
+    29,
+    30,
+    31,
+    32,
+    33,
+    34,
+    35,
+    36,
+    37,
+    38,
+    39,
+    40,
 ];
 
 // The numbers of the registers that a hart keeps, by place.
@@ -129,15 +261,19 @@ const NUMBERS: [u64; places::KEPT] = [
     0x280,
     0x300,
     0x302,
+    0x303,
+    0x304,
     0x305,
     0x340,
     0x341,
     0x342,
     0x343,
+    0x344,
     0x34a,
     0x34b,
     0x600,
     0x602,
+    0x603,
     0x643,
     0x64a,
     0x680,
@@ -147,6 +283,18 @@ fn homes() -> [u8; ROWS]
     ensures { λ r. ⌜ r ≡ map (λ (x : Register). x .view .home) registers ⌝ }
 {
     HOMES
+}
+
+fn shifts() -> [u8; ROWS]
+    ensures { λ r. ⌜ r ≡ map (λ (x : Register). x .view .shift) registers ⌝ }
+{
+    SHIFTS
+}
+
+fn gates() -> [u8; ROWS]
+    ensures { λ r. ⌜ r ≡ map (λ (x : Register). x .view .gate) registers ⌝ }
+{
+    GATES
 }
 
 fn shows() -> [u64; ROWS]
@@ -173,10 +321,14 @@ fn kept_at(row: usize) -> Kept
     ensures { λ r. ⌜ r ≡ keptOf (at row .view) ⌝ }
 {
     let homes = homes();
+    let shifts = shifts();
     let shows = shows();
+    let gates = gates();
     Kept {
         home: homes[row] as usize,
+        shift: shifts[row] as u64,
         shows: shows[row],
+        gate: gates[row] as usize,
     }
 }
 

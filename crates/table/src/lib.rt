@@ -6,7 +6,7 @@ use registers::masks;
 pub mod kept;
 
 // How many registers there are.
-pub const ROWS: usize = 29;
+pub const ROWS: usize = 41;
 
 // The level that a number belongs to: S; VS and H; M.
 pub const SUPERVISOR: u64 = 1;
@@ -35,6 +35,13 @@ const TABLE: [Row; ROWS] = [
         level: SUPERVISOR,
         read_only: false,
         mask: masks::STATUS,
+    },
+    // sie
+    Row {
+        number: 0x104,
+        level: SUPERVISOR,
+        read_only: false,
+        mask: masks::S_INTERRUPTS,
     },
     // stvec
     Row {
@@ -71,6 +78,13 @@ const TABLE: [Row; ROWS] = [
         read_only: false,
         mask: masks::WORD,
     },
+    // sip
+    Row {
+        number: 0x144,
+        level: SUPERVISOR,
+        read_only: false,
+        mask: masks::SIP,
+    },
     // satp
     Row {
         number: 0x180,
@@ -84,6 +98,13 @@ const TABLE: [Row; ROWS] = [
         level: HYPERVISOR,
         read_only: false,
         mask: masks::STATUS,
+    },
+    // vsie
+    Row {
+        number: 0x204,
+        level: HYPERVISOR,
+        read_only: false,
+        mask: masks::S_INTERRUPTS,
     },
     // vstvec
     Row {
@@ -120,6 +141,13 @@ const TABLE: [Row; ROWS] = [
         read_only: false,
         mask: masks::WORD,
     },
+    // vsip
+    Row {
+        number: 0x244,
+        level: HYPERVISOR,
+        read_only: false,
+        mask: masks::SIP,
+    },
     // vsatp
     Row {
         number: 0x280,
@@ -140,6 +168,20 @@ const TABLE: [Row; ROWS] = [
         level: MACHINE,
         read_only: false,
         mask: masks::MEDELEG,
+    },
+    // mideleg
+    Row {
+        number: 0x303,
+        level: MACHINE,
+        read_only: false,
+        mask: masks::S_INTERRUPTS,
+    },
+    // mie
+    Row {
+        number: 0x304,
+        level: MACHINE,
+        read_only: false,
+        mask: masks::INTERRUPTS,
     },
     // mtvec
     Row {
@@ -176,6 +218,13 @@ const TABLE: [Row; ROWS] = [
         read_only: false,
         mask: masks::WORD,
     },
+    // mip
+    Row {
+        number: 0x344,
+        level: MACHINE,
+        read_only: false,
+        mask: masks::MIP,
+    },
     // mtinst
     Row {
         number: 0x34a,
@@ -204,12 +253,47 @@ const TABLE: [Row; ROWS] = [
         read_only: false,
         mask: masks::HEDELEG,
     },
+    // hideleg
+    Row {
+        number: 0x603,
+        level: HYPERVISOR,
+        read_only: false,
+        mask: masks::VS_INTERRUPTS,
+    },
+    // hie
+    Row {
+        number: 0x604,
+        level: HYPERVISOR,
+        read_only: false,
+        mask: masks::VS_INTERRUPTS,
+    },
+    // hgeie
+    Row {
+        number: 0x607,
+        level: HYPERVISOR,
+        read_only: false,
+        mask: 0,
+    },
     // htval
     Row {
         number: 0x643,
         level: HYPERVISOR,
         read_only: false,
         mask: masks::WORD,
+    },
+    // hip
+    Row {
+        number: 0x644,
+        level: HYPERVISOR,
+        read_only: false,
+        mask: masks::HIP,
+    },
+    // hvip
+    Row {
+        number: 0x645,
+        level: HYPERVISOR,
+        read_only: false,
+        mask: masks::VS_INTERRUPTS,
     },
     // htinst
     Row {

@@ -8,15 +8,19 @@ returns : tie.Need-returns
 unfolding legal put
 returns c =
     rw (
-      c .masked4 .ensures,
-      c .before .masked3 .ensures,
-      c .before .before .masked2 .ensures,
-      c .before .before .before .masked .ensures,
-      c .before .before .before .before .mpp-fits .ensures,
+      c .masked7 .ensures,
+      c .before .masked6 .ensures,
+      c .before .before .masked5 .ensures,
+      c .before .before .before .masked4 .ensures,
+      c .before .before .before .before .masked3 .ensures,
+      c .before .before .before .before .before .masked2 .ensures,
+      c .before .before .before .before .before .before .masked .ensures,
+      c .before .before .before .before .before .before .before .mpp-fits .ensures,
     )
 
 pub machine-legal-spec : {M : Type 1} → statement M
 machine-legal-spec =
     tie.close
     (tie.spec
-    (λ c κs. search needs) (λ c κs. search needs) (λ c κs. search needs) (λ c κs. search needs) (λ c κs. search needs) returns)
+    (λ c κs. search needs) (λ c κs. search needs) (λ c κs. search needs) (λ c κs. search needs) (λ c κs. search needs) (λ c κs. search needs) (λ c κs. search needs)
+    (λ c κs. search needs) returns)
