@@ -4,6 +4,7 @@ pub mod Shifts
 pub mod Fields
 pub mod Tests
 pub mod Assign
+pub mod Lists
 pub mod Every
 pub mod Tested
 pub mod Single

@@ -1,12 +1,11 @@
 -- Register access (document 01, "Access").
 use mathlib.Core.Bool.{Bool, true, false}
 use Prim.Native.Nat.{ℕ}
-use lib.Bits.{bitAnd}
 use lib.Dec.{eqb}
 use lib.ListN as list
 use Rattle.bits.specs.Field.{pick}
-use Rattle.registers.specs.Rules.{stored}
-use Rattle.registers.specs.Registers.{View, at}
+use Rattle.registers.specs.Views.{View, lets, shown, storedBy}
+use Rattle.registers.specs.Registers.{at}
 use Rattle.table.specs.declared.Row.{Row}
 use Rattle.table.specs.declared.Found.{Found}
 use Rattle.table.specs.declared.Found.the-variants.{At, Nothing}
@@ -17,7 +16,7 @@ use Rattle.csr.specs.declared.Form.the-variants.{Read, Write, Set, Clear}
 use Rattle.csr.specs.Access.{overRange, verdict, combined}
 use Rattle.hart.specs.declared.state.Hart.{Hart}
 use Rattle.hart.specs.declared.event.Outcome.{Outcome}
-use Rattle.hart.specs.declared.event.Outcome.the-variants.{Done, Trapped, Refused}
+use Rattle.hart.specs.declared.event.Outcome.the-variants.{Done, Trapped, Refused, Interrupted}
 use Rattle.hart.specs.declared.event.Step.{Step}
 use Rattle.hart.specs.declared.access.Accessed.{Accessed}
 use Rattle.hart.specs.Hart.{reg, context}
@@ -28,21 +27,22 @@ abbrev pub valueOf : Outcome → ℕ → ℕ
 valueOf Done old = old
 valueOf (Trapped cause) old = 0
 valueOf (Refused number) old = 0
+valueOf (Interrupted number) old = 0
 
 abbrev pub answer : Step → ℕ → Accessed
 answer s old = record { hart = s .hart; outcome = s .outcome; value = valueOf (s .outcome) old }
 
 -- what a read of a register shows
 abbrev pub seen : Hart → View → ℕ
-seen h v = bitAnd (reg h (v .home)) (v .shows)
+seen h v = shown v (lets (h .regs) v) (reg h (v .home))
 
--- a done access: x written to the bits of a mask at the register's home, if the access writes, and pc moved on by 4, wrapping
-unfoldable pub written : Hart → (home mask x : ℕ) → Bool → Hart
-written h home mask x writes = record {
+-- a done access: x written through the register's view, if the access writes, and pc moved on by 4, wrapping
+unfoldable pub written : Hart → View → (x : ℕ) → Bool → Hart
+written h v x writes = record {
   v = h .v;
   privilege = h .privilege;
   pc = next (h .pc);
-  regs = pick writes (list.set (h .regs) home (stored home mask (reg h home) x)) (h .regs);
+  regs = pick writes (list.set (h .regs) (v .home) (storedBy v (lets (h .regs) v) (reg h (v .home)) x)) (h .regs);
 }
 
 -- an access to the register of a row; own is the call's own refusal, or 0
@@ -50,7 +50,7 @@ unfoldable pub accessRow : Hart → ℕ → ℕ → Row → Form → ℕ → Boo
 accessRow h own place row form w writes =
     let to : View = reached (eqb (h .v) 1) (at place) in
     let old : ℕ = seen h to in
-    answer (settled h own (verdict (context h) row writes) no-value (done (written h (to .home) (to .writes) (combined form old w) writes))) old
+    answer (settled h own (verdict (context h) row writes) no-value (done (written h to (combined form old w) writes))) old
 
 -- an unlisted number: cause 2 in every mode, so that the step that would be done never is
 abbrev pub unlisted : Hart → ℕ → Accessed

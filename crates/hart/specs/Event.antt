@@ -7,7 +7,7 @@ use Rattle.privilege.specs.declared.Verdict.{Verdict}
 use Rattle.exceptions.specs.declared.Exception.{Exception}
 use Rattle.hart.specs.declared.state.Hart.{Hart}
 use Rattle.hart.specs.declared.event.Outcome.{Outcome}
-use Rattle.hart.specs.declared.event.Outcome.the-variants.{Done, Trapped, Refused}
+use Rattle.hart.specs.declared.event.Outcome.the-variants.{Done, Trapped, Refused, Interrupted}
 use Rattle.hart.specs.declared.event.Step.{Step}
 use Rattle.hart.specs.Hart.{passes}
 use Rattle.hart.specs.Deliver.{delivered}
@@ -17,6 +17,7 @@ abbrev pub refusal : Outcome → ℕ
 refusal Done = 0
 refusal (Trapped cause) = 0
 refusal (Refused number) = number
+refusal (Interrupted number) = 0
 
 abbrev pub step : Hart → Outcome → Step
 step h o = record { hart = h; outcome = o }

@@ -2,10 +2,11 @@
 use mathlib.Core.Bool.{Bool}
 use Prim.Native.Nat.{ℕ}
 use lib.ListN.{getD}
-use Rattle.registers.specs.Places.{mstatus, hstatus}
+use Rattle.registers.specs.Places.{vsstatus, mstatus, mideleg, mie, mip, hstatus, hideleg}
 use Rattle.registers.specs.File.{initial, registersPass}
 use Rattle.privilege.specs.declared.Context.{Context}
 use Rattle.privilege.specs.Mode.{checked}
+use Rattle.interrupts.specs.declared.Lines.{Lines}
 use Rattle.hart.specs.declared.state.Hart.{Hart}
 
 -- what a place holds
@@ -19,6 +20,10 @@ reset v privilege pc = record { v = v; privilege = privilege; pc = pc; regs = in
 -- what an instruction's permission depends on
 abbrev pub context : Hart → Context
 context h = record { v = h .v; privilege = h .privilege; mstatus = reg h mstatus; hstatus = reg h hstatus }
+
+-- what an interrupt's being due depends on beside
+abbrev pub lines : Hart → Lines
+lines h = record { mip = reg h mip; mie = reg h mie; mideleg = reg h mideleg; hideleg = reg h hideleg; vsstatus = reg h vsstatus }
 
 -- check 2
 unfoldable pub passes : Hart → Bool

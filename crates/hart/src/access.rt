@@ -1,18 +1,19 @@
 // Register access: read, write, set and clear.
 ghost use mathlib.Core.Path.{_≡_};
 ghost use Prim.Native.Nat.{_<_};
-ghost use lib.Bits.{bitAnd};
 ghost use Rattle.registers.specs.Places.{kept};
+ghost use Rattle.registers.specs.Views.{lets};
 ghost use Rattle.registers.specs.Registers.{count, at};
-ghost use Rattle.table.specs.Table.{rowOf};
-ghost use Rattle.hart.specs.Hart.{reg};
-ghost use Rattle.hart.specs.Access.{written, valueOf, answer, accessRow, unlisted, access, read, write, set, clear};
+ghost use Rattle.table.specs.Table.{rowOf, viewOf};
+ghost use Rattle.hart.specs.Access.{seen, written, valueOf, answer, accessRow, unlisted, access, read, write, set, clear};
 use crate::event;
 use crate::event::Outcome;
 use crate::event::Step;
 use crate::state::Hart;
 use csr::Form;
 use privilege::Verdict;
+use registers::masks;
+use registers::places;
 use table::Found;
 use table::Row;
 use table::kept::Kept;
@@ -31,6 +32,7 @@ fn value_of(outcome: Outcome, old: u64) -> u64
         Outcome::Done => old,
         Outcome::Trapped(_) => 0,
         Outcome::Refused(_) => 0,
+        Outcome::Interrupted(_) => 0,
     }
 }
 
@@ -47,22 +49,35 @@ fn answer(s: Step, old: u64) -> Accessed
 }
 
 impl Hart {
-    // What a read of a register shows.
-    fn seen(self, at: Kept) -> u64
-        requires { ⌜ at .home < kept ⌝ }
-        ensures { λ r. ⌜ r ≡ bitAnd (reg self (at .home)) (at .shows) ⌝ }
+    // The bits that a register's gate lets through.
+    fn gate(self, at: Kept) -> u64
+        ensures { λ r. ⌜ r ≡ lets (self .regs) (viewOf at 0) ⌝ }
     {
-        let home = at.home;
-        self.regs[home] & at.shows
+        let gate = at.gate;
+        if gate < places::KEPT {
+            return self.regs[gate];
+        }
+        masks::WORD
     }
 
-    // x written to the bits of a mask at a place, where the access writes; pc moves on.
-    fn written(mut self, home: usize, mask: u64, x: u64, writes: bool) -> Hart
-        requires { ⌜ home < kept ⌝ }
-        ensures { λ r. ⌜ r ≡ written self home mask x writes ⌝ }
+    // What a read of a register shows.
+    fn seen(self, at: Kept) -> u64
+        requires { ⌜ (at .home < kept) × (at .shift < 64) ⌝ }
+        ensures { λ r. ⌜ r ≡ seen self (viewOf at 0) ⌝ }
     {
+        let home = at.home;
+        csr::show(at, self.gate(at), self.regs[home])
+    }
+
+    // x written to a register's bits of a mask, where the access writes; pc moves on.
+    fn written(mut self, at: Kept, mask: u64, x: u64, writes: bool) -> Hart
+        requires { ⌜ (at .home < kept) × (at .shift < 64) ⌝ }
+        ensures { λ r. ⌜ r ≡ written self (viewOf at mask) x writes ⌝ }
+    {
+        let home = at.home;
+        let gate = self.gate(at);
         let old = self.regs[home];
-        self.regs[home] = csr::store(home, mask, old, x, writes);
+        self.regs[home] = csr::store(at, mask, gate, old, x, writes);
         self.moved()
     }
 
@@ -82,7 +97,7 @@ impl Hart {
         let verdict = csr::verdict(self.context(), row, writes);
         let to = table::kept::reach(place, self.v == 1);
         let old = self.seen(to);
-        let next = self.written(to.home, row.mask, csr::combine(form, old, w), writes);
+        let next = self.written(to, row.mask, csr::combine(form, old, w), writes);
         answer(self.finish(own, verdict, event::NO_VALUE, next), old)
     }
 

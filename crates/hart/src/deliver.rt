@@ -1,6 +1,6 @@
 // Delivery of a trap.
 ghost use mathlib.Core.Path.{_≡_};
-ghost use Rattle.hart.specs.Deliver.{deliveredM, deliveredHS, deliveredVS, delivered};
+ghost use Rattle.hart.specs.Deliver.{deliveredM, deliveredHS, deliveredVS, deliveredTo, delivered};
 use crate::state::Hart;
 use delivery::Target;
 use exceptions::Exception;
@@ -21,7 +21,7 @@ impl Hart {
         self.regs[places::MTINST] = t.word;
         self.v = 0;
         self.privilege = 3;
-        self.pc = tvec - tvec % 4;
+        self.pc = delivery::handler(tvec, t.cause);
         self
     }
 
@@ -41,7 +41,7 @@ impl Hart {
         self.regs[places::HTINST] = t.word;
         self.v = 0;
         self.privilege = 1;
-        self.pc = tvec - tvec % 4;
+        self.pc = delivery::handler(tvec, t.cause);
         self
     }
 
@@ -57,11 +57,22 @@ impl Hart {
         self.regs[places::VSTVAL] = t.value;
         self.v = 1;
         self.privilege = 1;
-        self.pc = tvec - tvec % 4;
+        self.pc = delivery::handler(tvec, t.cause);
         self
     }
 
-    // The hart after a trap, whatever it is.
+    // The hart after a trap to a target.
+    pub fn deliver_to(self, to: Target, t: Exception) -> Hart
+        ensures { λ r. ⌜ r ≡ deliveredTo to self t ⌝ }
+    {
+        match to {
+            Target::M => self.deliver_m(t),
+            Target::HS => self.deliver_hs(t),
+            Target::VS => self.deliver_vs(t),
+        }
+    }
+
+    // The hart after a trap by an exception, whatever it is.
     pub fn deliver(self, t: Exception) -> Hart
         ensures { λ r. ⌜ r ≡ delivered self t ⌝ }
     {
@@ -71,10 +82,6 @@ impl Hart {
             self.regs[places::HEDELEG],
             t.cause,
         );
-        match to {
-            Target::M => self.deliver_m(t),
-            Target::HS => self.deliver_hs(t),
-            Target::VS => self.deliver_vs(t),
-        }
+        self.deliver_to(to, t)
     }
 }

@@ -5,11 +5,12 @@ use crate::state::Hart;
 use exceptions::Exception;
 use privilege::Verdict;
 
-// The event was done, it trapped with a cause, or it was refused with document 01's number.
+// The event was done, it trapped with a cause, it was refused with document 01's number, or an interrupt was taken, by its bit in mip.
 pub enum Outcome {
     Done,
     Trapped(u64),
     Refused(u64),
+    Interrupted(u64),
 }
 
 pub struct Step {

@@ -2,6 +2,7 @@
 pub mod access;
 pub mod deliver;
 pub mod event;
+pub mod interrupt;
 pub mod returns;
 pub mod state;
 pub mod trap;

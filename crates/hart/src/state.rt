@@ -1,6 +1,7 @@
 // What a hart holds, and check 2.
 ghost use mathlib.Core.Path.{_≡_};
-ghost use Rattle.hart.specs.Hart.{reset, context, passes};
+ghost use Rattle.hart.specs.Hart.{reset, context, lines, passes};
+use interrupts::Lines;
 use privilege::Context;
 use registers::file;
 use registers::places;
@@ -35,6 +36,19 @@ impl Hart {
             privilege: self.privilege,
             mstatus: self.regs[places::MSTATUS],
             hstatus: self.regs[places::HSTATUS],
+        }
+    }
+
+    // What an interrupt's being due depends on beside.
+    pub fn lines(self) -> Lines
+        ensures { λ r. ⌜ r ≡ lines self ⌝ }
+    {
+        Lines {
+            mip: self.regs[places::MIP],
+            mie: self.regs[places::MIE],
+            mideleg: self.regs[places::MIDELEG],
+            hideleg: self.regs[places::HIDELEG],
+            vsstatus: self.regs[places::VSSTATUS],
         }
     }
 

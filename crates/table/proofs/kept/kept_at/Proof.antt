@@ -1,16 +1,13 @@
-use mathlib.Core.Path.{_≡_, sym, ap, _∙_}
-use mathlib.Core.List.{List, map}
+use mathlib.Core.Path.{_≡_, _∙_}
+use mathlib.Core.List.{map}
 use Prim.Native.Nat.{ℕ, _<_}
-use lib.ListN.{getD, length, List·getD-map}
-use lib.Seq.{drop-cons}
+use lib.ListN.{getD, List·getD-map}
+use Rattle.bits.proofs.Lists.{any-default}
 use Rattle.registers.specs.Views.{no-bits}
 use Rattle.registers.specs.Registers.{count, Register, register, registers, at}
 use borrow.Author.Needs.{needs}
 use Rattle.table.proofs.kept.kept_at.Statement.{statement}
 use Rattle.table.proofs.kept.kept_at.Tie as tie
-
-any-default : (l : List ℕ) (i d e : ℕ) → i < length l → getD l i d ≡ getD l i e
-any-default l i d e h = sym (ap (λ (r : List ℕ). getD r 0 d) (drop-cons l i d h)) ∙ ap (λ (r : List ℕ). getD r 0 d) (drop-cons l i e h)
 
 column : (f : Register → ℕ) (row : ℕ) → row < count → getD (map f registers) row 0 ≡ f (at row)
 column f row h = any-default (map f registers) row 0 (f (register 0 0 no-bits)) h ∙ List·getD-map f registers row (register 0 0 no-bits)

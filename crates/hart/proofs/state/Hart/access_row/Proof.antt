@@ -1,7 +1,7 @@
 use mathlib.Core.Path.{_≡_, sym, ap, _∙_}
 use lib.Dec.{eqb}
 use Rattle.registers.specs.Registers.{at}
-use Rattle.registers.proofs.Rows.{reaches-home, reaches-writes}
+use Rattle.registers.proofs.Rows.{reaches-home, reaches-shift, reaches-writes}
 use Rattle.table.specs.declared.Row.{Row}
 use Rattle.table.specs.Table.{reached}
 use Rattle.hart.specs.Access.{accessRow}
@@ -10,10 +10,14 @@ use Rattle.hart.proofs.state.Hart.access_row.Statement.{statement}
 use Rattle.hart.proofs.state.Hart.access_row.Tie as tie
 
 seen-requires : tie.Need-seen-requires
-seen-requires c κs = rw (c .reach .ensures) (reaches-home (c .before .before .before .before .args .place) (eqb (c .before .before .before .before .args .self .v) 1))
+seen-requires c κs =
+    let a = c .before .before .before .before .args in
+    rw (c .reach .ensures) (reaches-home (a .place) (eqb (a .self .v) 1), reaches-shift (a .place) (eqb (a .self .v) 1))
 
 written-requires : tie.Need-written-requires
-written-requires c κs = rw (c .before .before .reach .ensures) (reaches-home (c .before .before .before .before .before .before .args .place) (eqb (c .before .before .before .before .before .before .args .self .v) 1))
+written-requires c κs =
+    let a = c .before .before .before .before .before .before .args in
+    rw (c .before .before .reach .ensures) (reaches-home (a .place) (eqb (a .self .v) 1), reaches-shift (a .place) (eqb (a .self .v) 1))
 
 returns : tie.Need-returns
 unfolding accessRow

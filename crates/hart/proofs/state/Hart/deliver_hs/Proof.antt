@@ -5,7 +5,7 @@ use Rattle.hart.proofs.state.Hart.deliver_hs.Tie as tie
 
 returns : tie.Need-returns
 unfolding deliveredHS
-returns c = rw (c .enter-h .ensures, c .before .before .enter-s .ensures)
+returns c = rw (c .handler .ensures, c .before .enter-h .ensures, c .before .before .before .enter-s .ensures)
 
 pub deliver-hs-spec : {M : Type 1} → statement M
 deliver-hs-spec =

@@ -5,7 +5,7 @@ use Rattle.hart.proofs.state.Hart.deliver_m.Tie as tie
 
 returns : tie.Need-returns
 unfolding deliveredM
-returns c = rw (c .enter-m .ensures)
+returns c = rw (c .handler .ensures, c .before .enter-m .ensures)
 
 pub deliver-m-spec : {M : Type 1} → statement M
 deliver-m-spec =

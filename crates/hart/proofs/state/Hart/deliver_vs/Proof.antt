@@ -5,7 +5,7 @@ use Rattle.hart.proofs.state.Hart.deliver_vs.Tie as tie
 
 returns : tie.Need-returns
 unfolding deliveredVS
-returns c = rw (c .enter-s .ensures)
+returns c = rw (c .handler .ensures, c .before .enter-s .ensures)
 
 pub deliver-vs-spec : {M : Type 1} → statement M
 deliver-vs-spec =
