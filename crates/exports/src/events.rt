@@ -1,6 +1,7 @@
 // The events on a hart's words: each hands the next hart back, with what the event came to.
 ghost use mathlib.Core.Path.{_≡_};
 ghost use Rattle.hart.specs.Trap.{trap, ecall, ebreak};
+ghost use Rattle.hart.specs.Interrupt.{interrupt};
 ghost use Rattle.hart.specs.Return.{mret, sret};
 ghost use Rattle.hart.specs.Wait.{wfi, sfenceVma, hfenceVvma, hfenceGvma};
 ghost use Rattle.hart.specs.declared.state.Hart.{Hart};
@@ -92,4 +93,12 @@ pub extern "C" fn balcumentri_hfence_gvma(h: &[u64], out: &mut [u64]) -> u64
     ensures { λ r. ⌜ (r, now (out .exit)) ≡ onStep hfenceGvma (now (h .entry)) (now (out .entry)) ⌝ }
 {
     layout::put_step(layout::hart_of(h).hfence_gvma(), h.len(), &mut *out)
+}
+
+// Takes the interrupt that is due.
+#[no_mangle]
+pub extern "C" fn balcumentri_interrupt(h: &[u64], out: &mut [u64]) -> u64
+    ensures { λ r. ⌜ (r, now (out .exit)) ≡ onStep interrupt (now (h .entry)) (now (out .entry)) ⌝ }
+{
+    layout::put_step(layout::hart_of(h).interrupt(), h.len(), &mut *out)
 }

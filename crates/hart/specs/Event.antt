@@ -1,5 +1,5 @@
 -- What an event comes to, and the order in which it is settled (document 01, "When the model says no").
-use mathlib.Core.Bool.{false, not}
+use mathlib.Core.Bool.{Bool, true, false, not}
 use Prim.Native.Nat.{ℕ, _+_, _%_, _^_}
 use lib.Dec.{eqb}
 use Rattle.bits.specs.Field.{pick}
@@ -9,6 +9,8 @@ use Rattle.hart.specs.declared.state.Hart.{Hart}
 use Rattle.hart.specs.declared.event.Outcome.{Outcome}
 use Rattle.hart.specs.declared.event.Outcome.the-variants.{Done, Trapped, Refused, Interrupted}
 use Rattle.hart.specs.declared.event.Step.{Step}
+use Rattle.hart.specs.declared.event.Stop.{Stop}
+use Rattle.hart.specs.declared.event.Stop.the-variants.{Goes, Halts}
 use Rattle.hart.specs.Hart.{passes}
 use Rattle.hart.specs.Deliver.{delivered}
 
@@ -44,13 +46,28 @@ no-value = 0
 abbrev pub raised : Hart → (cause value : ℕ) → Step
 raised h cause value = trapped h (plain cause value)
 
--- order: 2, then the call's own (0: none); then the cause that the instruction gives, with its value; else the step that is done
+-- a refusal, or a cause that is raised
+abbrev pub refuses : ℕ → Stop
+refuses number = Halts true number
+
+abbrev pub raises : ℕ → Stop
+raises cause = Halts false cause
+
+-- order: 2, then the call's own (0: none); then the cause that the instruction gives
+unfoldable pub stopOf : Hart → (own : ℕ) → Verdict → Stop
+stopOf h own verdict =
+    pick (not (passes h)) (refuses 2)
+    (pick (not (eqb own 0)) (refuses own)
+    (pick (verdict .gives2) (raises 2)
+    (pick (verdict .gives22) (raises 22) Goes)))
+
+-- a cause is raised with its value; else the step that is done
+abbrev pub settledBy : Stop → Hart → (value : ℕ) → Step → Step
+settledBy Goes h value finished = finished
+settledBy (Halts refuses number) h value finished = pick refuses (refused h number) (raised h number value)
+
 unfoldable pub settled : Hart → (own : ℕ) → Verdict → (value : ℕ) → Step → Step
-settled h own verdict value finished =
-    pick (not (passes h)) (refused h 2)
-    (pick (not (eqb own 0)) (refused h own)
-    (pick (verdict .gives2) (raised h 2 value)
-    (pick (verdict .gives22) (raised h 22 value) finished)))
+settled h own verdict value finished = settledBy (stopOf h own verdict) h value finished
 
 -- an instruction moves pc on by 4, wrapping
 abbrev pub next : ℕ → ℕ

@@ -9,6 +9,7 @@ ghost use Rattle.hart.specs.Access.{seen, written, valueOf, answer, acce
 use crate::event;
 use crate::event::Outcome;
 use crate::event::Step;
+use crate::event::Stop;
 use crate::state::Hart;
 use csr::Form;
 use privilege::Verdict;
@@ -94,11 +95,21 @@ impl Hart {
         requires { ⌜ (place < count) × (row ≡ rowOf (at place)) ⌝ }
         ensures { λ r. ⌜ r ≡ accessRow self own place row form w writes ⌝ }
     {
-        let verdict = csr::verdict(self.context(), row, writes);
-        let to = table::kept::reach(place, self.v == 1);
-        let old = self.seen(to);
-        let next = self.written(to, row.mask, csr::combine(form, old, w), writes);
-        answer(self.finish(own, verdict, event::NO_VALUE, next), old)
+        let stop = self.stops(own, csr::verdict(self.context(), row, writes));
+        match stop {
+            Stop::Goes => {
+                let to = table::kept::reach(place, self.v == 1);
+                let old = self.seen(to);
+                Accessed {
+                    hart: self.written(to, row.mask, csr::combine(form, old, w), writes),
+                    outcome: Outcome::Done,
+                    value: old,
+                }
+            }
+            Stop::Halts(refuses, number) => {
+                answer(self.halt(refuses, number, event::NO_VALUE), 0)
+            }
+        }
     }
 
     // An access to a number that no register has.
@@ -109,7 +120,19 @@ impl Hart {
             gives2: true,
             gives22: false,
         };
-        answer(self.finish(own, verdict, event::NO_VALUE, self), 0)
+        let stop = self.stops(own, verdict);
+        match stop {
+            Stop::Goes => {
+                Accessed {
+                    hart: self,
+                    outcome: Outcome::Done,
+                    value: 0,
+                }
+            }
+            Stop::Halts(refuses, number) => {
+                answer(self.halt(refuses, number, event::NO_VALUE), 0)
+            }
+        }
     }
 
     // An access to the register with a number.

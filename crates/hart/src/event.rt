@@ -1,6 +1,7 @@
 // What an event comes to, and the order in which it is settled.
 ghost use mathlib.Core.Path.{_≡_};
-ghost use Rattle.hart.specs.Event.{done, trapped, plain, raised, settled, moved};
+ghost use Rattle.bits.specs.Field.{pick};
+ghost use Rattle.hart.specs.Event.{refused, trapped, plain, raised, stopOf, moved};
 use crate::state::Hart;
 use exceptions::Exception;
 use privilege::Verdict;
@@ -17,6 +18,18 @@ pub struct Step {
     pub hart: Hart,
     pub outcome: Outcome,
 }
+
+// Whether an event goes on or halts: refused with a number, or raising a cause.
+pub enum Stop {
+    Goes,
+    Halts(bool, u64),
+}
+
+// No cause of its own.
+pub const ALLOWED: Verdict = Verdict {
+    gives2: false,
+    gives22: false,
+};
 
 // The value of causes 2 and 22 that the model raises.
 pub const NO_VALUE: u64 = 0;
@@ -47,51 +60,36 @@ impl Hart {
         }
     }
 
-    // A cause that the model raises, 2 or 22.
-    fn raise(self, cause: u64, value: u64) -> Step
-        ensures { λ r. ⌜ r ≡ raised self cause value ⌝ }
-    {
-        self.take_trap(plain(cause, value))
-    }
-
-    // Refusal 2, then the call's own (0: none), then the cause that the verdict gives, with its value, else the step that is done.
-    pub fn settle(self, own: u64, verdict: Verdict, value: u64, finished: Step) -> Step
-        ensures { λ r. ⌜ r ≡ settled self own verdict value finished ⌝ }
+    // Refusal 2, then the call's own (0: none), then the cause that the verdict gives.
+    pub fn stops(self, own: u64, verdict: Verdict) -> Stop
+        ensures { λ r. ⌜ r ≡ stopOf self own verdict ⌝ }
     {
         if !self.passes() {
-            return Step {
-                hart: self,
-                outcome: Outcome::Refused(2),
-            };
+            return Stop::Halts(true, 2);
         }
         if own != 0 {
-            return Step {
-                hart: self,
-                outcome: Outcome::Refused(own),
-            };
+            return Stop::Halts(true, own);
         }
         if verdict.gives2 {
-            return self.raise(2, value);
+            return Stop::Halts(false, 2);
         }
         if verdict.gives22 {
-            return self.raise(22, value);
+            return Stop::Halts(false, 22);
         }
-        finished
+        Stop::Goes
     }
 
-    // The same, where the step that is done leaves the hart next.
-    pub fn finish(self, own: u64, verdict: Verdict, value: u64, next: Hart) -> Step
-        ensures { λ r. ⌜ r ≡ settled self own verdict value (done next) ⌝ }
+    // An event that does not go on: it is refused with a number, or raises a cause with its value.
+    pub fn halt(self, refuses: bool, number: u64, value: u64) -> Step
+        ensures { λ r. ⌜ r ≡ pick refuses (refused self number) (raised self number value) ⌝ }
     {
-        self.settle(
-            own,
-            verdict,
-            value,
-            Step {
-                hart: next,
-                outcome: Outcome::Done,
-            },
-        )
+        if refuses {
+            return Step {
+                hart: self,
+                outcome: Outcome::Refused(number),
+            };
+        }
+        self.take_trap(plain(number, value))
     }
 
     // pc moves on by 4, wrapping.

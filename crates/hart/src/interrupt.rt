@@ -4,9 +4,9 @@ ghost use Rattle.hart.specs.Interrupt.{taking, interrupt};
 use crate::event;
 use crate::event::Outcome;
 use crate::event::Step;
+use crate::event::Stop;
 use crate::state::Hart;
 use interrupts::Due;
-use privilege::Verdict;
 
 impl Hart {
     // The interrupt is taken, or none is due.
@@ -34,15 +34,13 @@ impl Hart {
     pub fn interrupt(self) -> Step
         ensures { λ r. ⌜ r ≡ interrupt self ⌝ }
     {
-        let due = interrupts::choose(self.context(), self.lines());
-        self.settle(
-            0,
-            Verdict {
-                gives2: false,
-                gives22: false,
-            },
-            event::NO_VALUE,
-            self.take_interrupt(due),
-        )
+        let stop = self.stops(0, event::ALLOWED);
+        match stop {
+            Stop::Goes => {
+                let due = interrupts::choose(self.context(), self.lines());
+                self.take_interrupt(due)
+            }
+            Stop::Halts(refuses, number) => self.halt(refuses, number, event::NO_VALUE),
+        }
     }
 }

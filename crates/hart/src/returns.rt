@@ -2,7 +2,9 @@
 ghost use mathlib.Core.Path.{_≡_};
 ghost use Rattle.hart.specs.Return.{returnedM, returnedHS, returnedVS, returnedS, mret, sret};
 use crate::event;
+use crate::event::Outcome;
 use crate::event::Step;
+use crate::event::Stop;
 use crate::state::Hart;
 use registers::fields::MPP;
 use registers::fields::SPP;
@@ -57,14 +59,30 @@ impl Hart {
     pub fn mret(self) -> Step
         ensures { λ r. ⌜ r ≡ mret self ⌝ }
     {
-        let verdict = instructions::mret(self.context());
-        self.finish(0, verdict, event::NO_VALUE, self.return_m())
+        let stop = self.stops(0, instructions::mret(self.context()));
+        match stop {
+            Stop::Goes => {
+                Step {
+                    hart: self.return_m(),
+                    outcome: Outcome::Done,
+                }
+            }
+            Stop::Halts(refuses, number) => self.halt(refuses, number, event::NO_VALUE),
+        }
     }
 
     pub fn sret(self) -> Step
         ensures { λ r. ⌜ r ≡ sret self ⌝ }
     {
-        let verdict = instructions::sret(self.context());
-        self.finish(0, verdict, event::NO_VALUE, self.return_s())
+        let stop = self.stops(0, instructions::sret(self.context()));
+        match stop {
+            Stop::Goes => {
+                Step {
+                    hart: self.return_s(),
+                    outcome: Outcome::Done,
+                }
+            }
+            Stop::Halts(refuses, number) => self.halt(refuses, number, event::NO_VALUE),
+        }
     }
 }

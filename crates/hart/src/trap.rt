@@ -3,24 +3,20 @@ ghost use mathlib.Core.Path.{_≡_};
 ghost use Rattle.hart.specs.Trap.{trapping, trap, ecall, ebreak};
 use crate::event;
 use crate::event::Step;
+use crate::event::Stop;
 use crate::state::Hart;
 use exceptions::Exception;
-use privilege::Verdict;
 
 impl Hart {
     // The trap is taken, unless refused.
     fn trapping(self, own: u64, t: Exception) -> Step
         ensures { λ r. ⌜ r ≡ trapping self own t ⌝ }
     {
-        self.settle(
-            own,
-            Verdict {
-                gives2: false,
-                gives22: false,
-            },
-            event::NO_VALUE,
-            self.take_trap(t),
-        )
+        let stop = self.stops(own, event::ALLOWED);
+        match stop {
+            Stop::Goes => self.take_trap(t),
+            Stop::Halts(refuses, number) => self.halt(refuses, number, event::NO_VALUE),
+        }
     }
 
     // A trap request.

@@ -2,7 +2,9 @@
 ghost use mathlib.Core.Path.{_≡_};
 ghost use Rattle.hart.specs.Wait.{passing, wfi, sfenceVma, hfenceVvma, hfenceGvma};
 use crate::event;
+use crate::event::Outcome;
 use crate::event::Step;
+use crate::event::Stop;
 use crate::state::Hart;
 use privilege::Verdict;
 
@@ -10,7 +12,16 @@ impl Hart {
     fn passing(self, verdict: Verdict) -> Step
         ensures { λ r. ⌜ r ≡ passing self verdict ⌝ }
     {
-        self.finish(0, verdict, event::NO_VALUE, self.moved())
+        let stop = self.stops(0, verdict);
+        match stop {
+            Stop::Goes => {
+                Step {
+                    hart: self.moved(),
+                    outcome: Outcome::Done,
+                }
+            }
+            Stop::Halts(refuses, number) => self.halt(refuses, number, event::NO_VALUE),
+        }
     }
 
     pub fn wfi(self) -> Step

@@ -7,7 +7,7 @@ use lib.ListN.{length, getD, take, drop, set, drop-of-length-le}
 use lib.Seq.{drop-cons, drop-at, length-take-le, length-front, sets, sets-eq, length-sets}
 use Rattle.hart.specs.declared.state.Hart.{Hart}
 use Rattle.hart.specs.declared.event.Outcome.{Outcome}
-use Rattle.hart.specs.declared.event.Outcome.the-variants.{Done, Trapped, Refused}
+use Rattle.hart.specs.declared.event.Outcome.the-variants.{Done, Trapped, Refused, Interrupted}
 use Rattle.layout.specs.Layout.{hart-size, words, said, outcomeWords}
 use Rattle.layout.specs.Taken.{put}
 use Rattle.layout.proofs.Lengths.{both-fit}
@@ -57,6 +57,7 @@ pub two-words : (o : Outcome) → getD (outcomeWords o) 0 0 ∷ getD (outcomeWor
 two-words Done = refl
 two-words (Trapped cause) = refl
 two-words (Refused number) = refl
+two-words (Interrupted number) = refl
 
 -- ---- the layout loses nothing
 

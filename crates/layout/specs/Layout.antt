@@ -7,7 +7,7 @@ use Rattle.bits.specs.Field.{pick}
 use Rattle.registers.specs.Places.{kept}
 use Rattle.hart.specs.declared.state.Hart.{Hart}
 use Rattle.hart.specs.declared.event.Outcome.{Outcome}
-use Rattle.hart.specs.declared.event.Outcome.the-variants.{Done, Trapped, Refused}
+use Rattle.hart.specs.declared.event.Outcome.the-variants.{Done, Trapped, Refused, Interrupted}
 use Rattle.hart.specs.declared.event.Step.{Step}
 use Rattle.hart.specs.declared.access.Accessed.{Accessed}
 
@@ -25,11 +25,12 @@ said ws = record { v = getD ws 0 0; privilege = getD ws 1 0; pc = getD ws 2 0; r
 unfoldable pub hartOf : List ℕ → Hart
 hartOf ws = pick (eqb (length ws) hart-size) (said ws) (said (replicate hart-size 0))
 
--- What an event came to, 2 words: 0 done; 1 trapped, and the cause; 2 refused, and the number.
+-- What an event came to, 2 words: 0 done; 1 trapped, and the cause; 2 refused, and the number; 3 an interrupt was taken, and its number.
 abbrev pub outcomeWords : Outcome → List ℕ
 outcomeWords Done = 0 ∷ 0 ∷ []
 outcomeWords (Trapped cause) = 1 ∷ cause ∷ []
 outcomeWords (Refused number) = 2 ∷ number ∷ []
+outcomeWords (Interrupted number) = 3 ∷ number ∷ []
 
 -- An event's result: the next hart, and what the event came to.
 abbrev pub step-size : ℕ

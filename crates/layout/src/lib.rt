@@ -73,6 +73,7 @@ fn outcome_words(o: Outcome) -> [u64; 2]
         Outcome::Done => [0, 0],
         Outcome::Trapped(cause) => [1, cause],
         Outcome::Refused(number) => [2, number],
+        Outcome::Interrupted(number) => [3, number],
     }
 }
 

@@ -9,15 +9,15 @@ pub mod kept;
 pub const ROWS: usize = 41;
 
 // The level that a number belongs to: S; VS and H; M.
-pub const SUPERVISOR: u64 = 1;
+pub const SUPERVISOR: u8 = 1;
 
-pub const HYPERVISOR: u64 = 2;
+pub const HYPERVISOR: u8 = 2;
 
-pub const MACHINE: u64 = 3;
+pub const MACHINE: u8 = 3;
 
 pub struct Row {
-    pub number: u64,
-    pub level: u64,
+    pub number: u16,
+    pub level: u8,
     pub read_only: bool,
     pub mask: u64,
 }
@@ -318,6 +318,12 @@ const TABLE: [Row; ROWS] = [
     },
 ];
 
+fn wide(x: u16) -> u64
+    ensures { λ r. ⌜ r ≡ x ⌝ }
+{
+    x as u64
+}
+
 // The first row that bears the number n, in a table as long as ours.
 pub fn find(table: [Row; ROWS], n: u64) -> Found
     ensures { λ r. ⌜ r ≡ firstAt table n 0 ⌝ }
@@ -325,7 +331,7 @@ pub fn find(table: [Row; ROWS], n: u64) -> Found
     let mut i: usize = 0;
     while i < ROWS {
         let row = table[i];
-        if row.number == n {
+        if wide(row.number) == n {
             return Found::At(i, row);
         }
         i += 1;

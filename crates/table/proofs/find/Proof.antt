@@ -22,10 +22,10 @@ loop-holds : tie.Need-loop-holds Inv-loop μ-loop
 loop-holds c = (search needs, refl)
 
 returns : tie.Need-returns Inv-loop μ-loop
-returns c = sym (c .before .before .before .before .loop .inv .1 ∙ first-here (c .before .before .before .before .before .args .t1) _ _ (search needs) (c .if1 .taken))
+returns c = sym (c .before .before .before .before .loop .inv .1 ∙ first-here (c .before .before .before .before .before .args .t1) _ _ (search needs) (sym (c .before .wide .ensures) ∙ c .if1 .taken))
 
 loop-again : tie.Need-loop-again Inv-loop μ-loop
-loop-again c = (search needs, c .before .before .before .before .loop .inv .1 ∙ first-next (c .before .before .before .before .before .args .t1) _ _ (search needs) (c .if1 .left))
+loop-again c = (search needs, c .before .before .before .before .loop .inv .1 ∙ first-next (c .before .before .before .before .before .args .t1) _ _ (search needs) (λ e. c .if1 .left (c .before .wide .ensures ∙ e)))
 
 returns-2 : tie.Need-returns-2 Inv-loop μ-loop
 returns-2 c = sym (c .before .loop .inv .1 ∙ first-end (c .before .before .args .t1) _ (c .before .loop .i) (omega (arith, length-is c)))
@@ -34,4 +34,4 @@ pub find-spec : {M : Type 1} → statement M
 find-spec =
     tie.close
     (tie.spec
-    Inv-loop μ-loop loop-holds (λ c. search needs) (λ c. search needs) returns (λ c. search needs) (λ c. search needs) loop-again returns-2)
+    Inv-loop μ-loop loop-holds (λ c. search needs) (λ c. search needs) (λ c κs. search needs) returns (λ c. search needs) (λ c. search needs) loop-again returns-2)
