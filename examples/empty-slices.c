@@ -65,6 +65,7 @@ int main(void)
     TRY(sfence_vma, BALCUMENTRI_STEP_WORDS, );
     TRY(hfence_vvma, BALCUMENTRI_STEP_WORDS, );
     TRY(hfence_gvma, BALCUMENTRI_STEP_WORDS, );
+    TRY(interrupt, BALCUMENTRI_STEP_WORDS, );
 
     uint64_t written = 0;
     for (size_t i = 0; i < BALCUMENTRI_TRANSLATION_WORDS; i++)

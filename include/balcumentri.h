@@ -10,19 +10,20 @@
  *   BALCUMENTRI_WRONG_LENGTH  a slice has a wrong length; nothing is written
  *   BALCUMENTRI_WRONG_KIND    (a translation's alone) no kind of access has that number; nothing is written
  *
- * A hart, 30 words:
+ * A hart, 34 words:
  *   0  V            1  privilege: 0 U, 1 S, 3 M            2  pc
- *   3 + place       the register kept at a place, 0 to 26, in this order: stvec sscratch sepc scause stval satp; vsstatus and the
- *                   same six of VS; mstatus medeleg mtvec mscratch mepc mcause mtval mtinst mtval2; hstatus hedeleg htval htinst
- *                   hgatp. sstatus is a view of mstatus and hgeip a constant: they are not kept.
+ *   3 + place       the register kept at a place, 0 to 30, in this order: stvec sscratch sepc scause stval satp; vsstatus and the
+ *                   same six of VS; mstatus medeleg mideleg mie mtvec mscratch mepc mcause mtval mip mtinst mtval2; hstatus hedeleg
+ *                   hideleg htval htinst hgatp. The views are not kept: sstatus, of mstatus; sie, hie and vsie, of mie; sip, hip,
+ *                   hvip and vsip, of mip. Nor are the constants hgeie and hgeip.
  *
- * An event's result, 32 words:
- *   0 to 29   the next hart
- *   30        what the event came to: 0 done, 1 trapped, 2 refused
- *   31        0, the trap's cause, the refusal's number
+ * An event's result, 36 words:
+ *   0 to 33   the next hart
+ *   34        what the event came to: 0 done, 1 trapped, 2 refused, 3 interrupted
+ *   35        0, the trap's cause, the refusal's number, the interrupt's number: that of its bit in mip
  *
- * A register access's result, 33 words: the same, and
- *   32        the value answered, 0 where the access trapped or was refused
+ * A register access's result, 37 words: the same, and
+ *   36        the value answered, 0 where the access trapped or was refused
  *
  * A translation's result, 67 words (the hart stays as it is):
  *   0         0 an address, 1 a fault, 2 refused
@@ -47,9 +48,9 @@ extern "C" {
 #define BALCUMENTRI_WRONG_LENGTH 1
 #define BALCUMENTRI_WRONG_KIND 2
 
-#define BALCUMENTRI_HART_WORDS 30
-#define BALCUMENTRI_STEP_WORDS 32
-#define BALCUMENTRI_ACCESS_WORDS 33
+#define BALCUMENTRI_HART_WORDS 34
+#define BALCUMENTRI_STEP_WORDS 36
+#define BALCUMENTRI_ACCESS_WORDS 37
 #define BALCUMENTRI_TRANSLATION_WORDS 67
 
 /* What an event or a translation came to. */
@@ -58,16 +59,17 @@ extern "C" {
 #define BALCUMENTRI_ADDRESS 0
 #define BALCUMENTRI_FAULT 1
 #define BALCUMENTRI_REFUSED 2
+#define BALCUMENTRI_INTERRUPTED 3
 
 #define BALCUMENTRI_FETCH 0
 #define BALCUMENTRI_LOAD 1
 #define BALCUMENTRI_STORE 2
 
 /* What the two lookups answer where a hart keeps no such register. */
-#define BALCUMENTRI_NO_PLACE 27
+#define BALCUMENTRI_NO_PLACE 31
 #define BALCUMENTRI_NO_NUMBER 4096
 
-/* A hart with this V, privilege and pc, whatever they are, whose registers hold what a write of 0 leaves. out: 30 words. */
+/* A hart with this V, privilege and pc, whatever they are, whose registers hold what a write of 0 leaves. out: 34 words. */
 uint64_t balcumentri_reset(uint64_t v, uint64_t privilege, uint64_t pc, uint64_t *out, size_t out_words);
 
 /* Check 2: out[0] is 1 where the hart can be one, else 0. out: 1 word. */
@@ -77,7 +79,7 @@ uint64_t balcumentri_passes(const uint64_t *hart, size_t hart_words, uint64_t *o
 uint64_t balcumentri_translate(const uint64_t *hart, size_t hart_words, uint64_t base, const uint8_t *bytes, size_t length,
                                uint64_t kind, uint64_t address, uint64_t width, uint64_t *out, size_t out_words);
 
-/* Register access by number. A set or a clear writes where its flag says so. out: 33 words. */
+/* Register access by number. A set or a clear writes where its flag says so. out: 37 words. */
 uint64_t balcumentri_read(const uint64_t *hart, size_t hart_words, uint64_t number, uint64_t *out, size_t out_words);
 uint64_t balcumentri_write(const uint64_t *hart, size_t hart_words, uint64_t number, uint64_t value, uint64_t *out,
                            size_t out_words);
@@ -86,11 +88,11 @@ uint64_t balcumentri_set(const uint64_t *hart, size_t hart_words, uint64_t numbe
 uint64_t balcumentri_clear(const uint64_t *hart, size_t hart_words, uint64_t number, uint64_t value, bool writes,
                            uint64_t *out, size_t out_words);
 
-/* A trap request: a fault that a translation answered, or another cause. out: 32 words. */
+/* A trap request: a fault that a translation answered, or another cause. out: 36 words. */
 uint64_t balcumentri_trap(const uint64_t *hart, size_t hart_words, uint64_t cause, uint64_t value, uint64_t second,
                           uint64_t word, bool flag, uint64_t *out, size_t out_words);
 
-/* The instructions ECALL, EBREAK, MRET, SRET, WFI, SFENCE.VMA, HFENCE.VVMA and HFENCE.GVMA. out: 32 words. */
+/* The instructions ECALL, EBREAK, MRET, SRET, WFI, SFENCE.VMA, HFENCE.VVMA and HFENCE.GVMA. out: 36 words. */
 uint64_t balcumentri_ecall(const uint64_t *hart, size_t hart_words, uint64_t *out, size_t out_words);
 uint64_t balcumentri_ebreak(const uint64_t *hart, size_t hart_words, uint64_t *out, size_t out_words);
 uint64_t balcumentri_mret(const uint64_t *hart, size_t hart_words, uint64_t *out, size_t out_words);
@@ -99,6 +101,9 @@ uint64_t balcumentri_wfi(const uint64_t *hart, size_t hart_words, uint64_t *out,
 uint64_t balcumentri_sfence_vma(const uint64_t *hart, size_t hart_words, uint64_t *out, size_t out_words);
 uint64_t balcumentri_hfence_vvma(const uint64_t *hart, size_t hart_words, uint64_t *out, size_t out_words);
 uint64_t balcumentri_hfence_gvma(const uint64_t *hart, size_t hart_words, uint64_t *out, size_t out_words);
+
+/* Takes the interrupt that is due: interrupted; where none is, done, and the hart is as it was. out: 36 words. */
+uint64_t balcumentri_interrupt(const uint64_t *hart, size_t hart_words, uint64_t *out, size_t out_words);
 
 /* The place of the register that a hart keeps with a number, and the number of the register at a place. */
 uint64_t balcumentri_place(uint64_t number);

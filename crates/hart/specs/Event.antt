@@ -54,7 +54,7 @@ abbrev pub raises : ℕ → Stop
 raises cause = Halts false cause
 
 -- order: 2, then the call's own (0: none); then the cause that the instruction gives
-unfoldable pub stopOf : Hart → (own : ℕ) → Verdict → Stop
+abbrev pub stopOf : Hart → (own : ℕ) → Verdict → Stop
 stopOf h own verdict =
     pick (not (passes h)) (refuses 2)
     (pick (not (eqb own 0)) (refuses own)

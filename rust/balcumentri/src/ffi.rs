@@ -10,7 +10,7 @@ mod agreement;
 use crate::translation::{Image, Read};
 
 /// How many registers a hart keeps.
-pub const KEPT: usize = 27;
+pub const KEPT: usize = 31;
 /// How many words a hart, an event's result and a register access's take.
 pub const HART: usize = 3 + KEPT;
 pub const STEP: usize = HART + 2;
@@ -114,6 +114,7 @@ extern "C" {
     fn balcumentri_sfence_vma(hart: *const u64, words: usize, out: *mut u64, size: usize) -> u64;
     fn balcumentri_hfence_vvma(hart: *const u64, words: usize, out: *mut u64, size: usize) -> u64;
     fn balcumentri_hfence_gvma(hart: *const u64, words: usize, out: *mut u64, size: usize) -> u64;
+    fn balcumentri_interrupt(hart: *const u64, words: usize, out: *mut u64, size: usize) -> u64;
     fn balcumentri_place(number: u64) -> u64;
     fn balcumentri_number(place: u64) -> u64;
 }
@@ -283,6 +284,11 @@ pub fn hfence_vvma(hart: &HartWords) -> StepWords {
 /// HFENCE.GVMA.
 pub fn hfence_gvma(hart: &HartWords) -> StepWords {
     plain(balcumentri_hfence_gvma, hart)
+}
+
+/// Takes the interrupt that is due, if one is.
+pub fn interrupt(hart: &HartWords) -> StepWords {
+    plain(balcumentri_interrupt, hart)
 }
 
 /// The place of the register that a hart keeps with a number, or [`KEPT`].

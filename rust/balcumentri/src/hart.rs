@@ -12,6 +12,8 @@ pub enum Outcome {
     Trapped(u64),
     /// It was refused with a number, and the hart is as it was.
     Refused(u64),
+    /// An interrupt was taken: its number, which is that of its bit in mip, also where it went to VS.
+    Interrupted(u64),
 }
 
 /// What a register access came to, and the value that it answers: the old one, or 0 where it was not done.
@@ -189,6 +191,22 @@ impl Hart {
         self.stepped(ffi::hfence_gvma(&self.words))
     }
 
+    /// Takes the interrupt that is due. Done: none was, and the hart is as it was.
+    ///
+    /// ```
+    /// use balcumentri::{Hart, Outcome};
+    ///
+    /// let mut hart = Hart::new(0, 0, 0x1000); // U
+    /// hart.put_register(0x304, 0x80); // mie: machine timer interrupts
+    /// assert_eq!(hart.interrupt(), Outcome::Done);
+    /// hart.put_register(0x344, 0x80); // mip: one is pending
+    /// assert_eq!(hart.interrupt(), Outcome::Interrupted(7));
+    /// assert_eq!(hart.read(0x342).value, 1 << 63 | 7); // mcause
+    /// ```
+    pub fn interrupt(&mut self) -> Outcome {
+        self.stepped(ffi::interrupt(&self.words))
+    }
+
     fn stepped(&mut self, result: StepWords) -> Outcome {
         self.words.copy_from_slice(&result[..ffi::HART]);
         outcome(result[ffi::HART], result[ffi::HART + 1])
@@ -207,6 +225,7 @@ fn outcome(kind: u64, number: u64) -> Outcome {
     match kind {
         0 => Outcome::Done,
         1 => Outcome::Trapped(number),
+        3 => Outcome::Interrupted(number),
         _ => Outcome::Refused(number),
     }
 }

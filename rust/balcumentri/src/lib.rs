@@ -36,10 +36,11 @@ pub use translation::{Access, Answer, Fault, Image, Kind, Read, Translation};
 #[doc = include_str!("../../../README.md")]
 struct Readme;
 
-/// The place of the register that a hart keeps with a number, 0 to 26.
+/// The place of the register that a hart keeps with a number, 0 to 30.
 ///
 /// ```
 /// assert_eq!(balcumentri::place(0x300), Some(13));
+/// assert_eq!(balcumentri::place(0x344), Some(22));
 /// assert_eq!(balcumentri::place(0x301), None);
 /// assert_eq!(balcumentri::place(0x100), None); // sstatus is a view of mstatus
 /// ```
@@ -52,7 +53,8 @@ pub fn place(number: u64) -> Option<usize> {
 ///
 /// ```
 /// assert_eq!(balcumentri::number(13), Some(0x300));
-/// assert_eq!(balcumentri::number(27), None);
+/// assert_eq!(balcumentri::number(30), Some(0x680));
+/// assert_eq!(balcumentri::number(31), None);
 /// ```
 pub fn number(place: usize) -> Option<u64> {
     (place < ffi::KEPT).then(|| ffi::number(place))

@@ -4,7 +4,7 @@
 use balcumentri::{Access, Hart, Image, Kind};
 
 /// How many words a hart takes.
-pub const HART_WORDS: usize = 30;
+pub const HART_WORDS: usize = 34;
 /// How many words a translation takes.
 pub const TRANSLATION_WORDS: usize = 67;
 

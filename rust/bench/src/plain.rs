@@ -50,11 +50,17 @@ const VSEPC: usize = 12;
 const VSATP: usize = 15;
 const MSTATUS: usize = 16;
 const MEDELEG: usize = 17;
-const MTVEC: usize = 18;
-const MEPC: usize = 20;
-const HSTATUS: usize = 25;
-const HEDELEG: usize = 26;
-const HGATP: usize = 29;
+const MIDELEG: usize = 18;
+/// mie
+const INTERRUPT_ENABLE: usize = 19;
+const MTVEC: usize = 20;
+const MEPC: usize = 22;
+/// mip
+const INTERRUPT_PENDING: usize = 25;
+const HSTATUS: usize = 28;
+const HEDELEG: usize = 29;
+const HIDELEG: usize = 30;
+const HGATP: usize = 33;
 
 // Privileges.
 const USER: u64 = 0;
@@ -88,6 +94,10 @@ const HSTATUS_STORED: u64 = HSTATUS_GVA_SPV_SPVP_HU | VTVM_VTW_VTSR;
 const HSTATUS_FIXED: u64 = UXL_64;
 const MEDELEG_STORED: u64 = 0xf0_b7ff;
 const HEDELEG_STORED: u64 = 0xb1ff;
+/// The interrupts of S and of VS, and these with M's: what mideleg and hideleg hand down, and what mie and mip hold.
+const S_INTERRUPTS: u64 = 0x222;
+const VS_INTERRUPTS: u64 = 0x444;
+const INTERRUPTS: u64 = S_INTERRUPTS | VS_INTERRUPTS | 0x888;
 const TVEC_ZERO: u64 = 0b10;
 const EPC_ZERO: u64 = 0b11;
 /// MODE is 0 or 8: its three low bits are zero.
@@ -206,10 +216,14 @@ fn passes(hart: &HartWords) -> bool {
         | (mstatus & !MSTATUS_STORED ^ MSTATUS_FIXED)
         | mpp_is_2
         | hart[MEDELEG] & !MEDELEG_STORED
+        | (hart[MIDELEG] & !S_INTERRUPTS ^ VS_INTERRUPTS)
+        | hart[INTERRUPT_ENABLE] & !INTERRUPTS
         | hart[MTVEC] & TVEC_ZERO
         | hart[MEPC] & EPC_ZERO
+        | hart[INTERRUPT_PENDING] & !INTERRUPTS
         | (hart[HSTATUS] & !HSTATUS_STORED ^ HSTATUS_FIXED)
         | hart[HEDELEG] & !HEDELEG_STORED
+        | hart[HIDELEG] & !VS_INTERRUPTS
         | hart[HGATP] & HGATP_ZERO;
     !no_mode & !mprv & (wrong == 0)
 }

@@ -34,7 +34,7 @@ fn checked(hart: &HartWords, image: Image<'_>, access: Access) -> Translation {
     plain
 }
 
-/// The wrapper's hart of these words; it has none where sstatus or hgeip is not zero.
+/// The wrapper's hart of these words; it has none where a view or a constant is not zero.
 fn wrapped(words: &HartWords) -> Option<balcumentri::Hart> {
     let mut hart = balcumentri::Hart::new(words[0], words[1], words[2]);
     for (place, &value) in words[3..].iter().enumerate() {

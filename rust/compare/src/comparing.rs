@@ -9,7 +9,7 @@ use second::hart::Mode;
 
 use crate::coverage::Coverage;
 use crate::fuzz::{fuzzed, Corpus};
-use crate::generate::{bad_script, flips_script, long_script, script};
+use crate::generate::{bad_script, flips_script, interrupts_script, long_script, script};
 use crate::program::{Outcome, Program, Script, Status};
 use crate::reasons::REASON;
 use crate::scenes::long;
@@ -55,8 +55,8 @@ pub enum Failure {
     NotRun(String, io::Error),
 }
 
-/// Runs both programs over the scripts of a seed: at least so many events, and then those that flip every bit of a hart and
-/// those with the longest lines. Ends at the first difference.
+/// Runs both programs over the scripts of a seed: at least so many events, and then those that flip every bit of a hart, those
+/// with everything that interrupts come to and those with the longest lines. Ends at the first difference.
 pub fn compare(
     first: &dyn Program,
     second: &dyn Program,
@@ -76,9 +76,11 @@ pub fn compare(
         place += 1;
     }
     for mode in Mode::ALL {
-        let made = flips_script(options.seed, mode, folder);
-        compare_and_count(first, second, place, made, &mut coverage)?;
-        place += 1;
+        for make in [flips_script, interrupts_script] {
+            let made = make(options.seed, mode, folder);
+            compare_and_count(first, second, place, made, &mut coverage)?;
+            place += 1;
+        }
     }
     for kind in 0..long::COUNT {
         let made = long_script(options.seed, kind, folder);

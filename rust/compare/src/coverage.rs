@@ -4,6 +4,9 @@
 //! reads, reasons, bad lines), and the second program's library while a script is written (the rule that ended a walk, the traps that
 //! were delivered and where to, which are not in any answer).
 
+pub mod bits;
+pub mod interrupts;
+
 use std::collections::BTreeMap;
 use std::fmt::Write as _;
 
@@ -14,10 +17,12 @@ use second::script::{Answer, Instruction, Line};
 use second::trap::{Ending, Target};
 use second::walk::{Key, Kind, Part, Rule};
 
+use crate::coverage::bits::Bits;
+use crate::coverage::interrupts::Interrupts;
 use crate::reasons::{KINDS, REASON};
 
 /// The words of the events, in REPLAY.md's order.
-pub const WORDS: [&str; 17] = [
+pub const WORDS: [&str; 18] = [
     "fetch",
     "load",
     "store",
@@ -34,6 +39,7 @@ pub const WORDS: [&str; 17] = [
     "sfence.vma",
     "hfence.vvma",
     "hfence.gvma",
+    "interrupt",
     "show",
 ];
 
@@ -92,6 +98,10 @@ pub struct Coverage {
     pub registers: BTreeMap<(u64, Mode), u64>,
     /// Translations by the mode of the hart that passed its check.
     pub translations: BTreeMap<Mode, u64>,
+    /// Interrupts.
+    pub interrupts: Interrupts,
+    /// Bits of the registers of interrupts.
+    pub bits: Bits,
     /// Refusals by event word and number.
     pub refused_words: BTreeMap<(&'static str, u64), u64>,
     /// Single flipped bits.
@@ -143,8 +153,13 @@ pub fn event_word(line: &Line) -> Option<&'static str> {
             Instruction::HfenceVvma => "hfence.vvma",
             Instruction::HfenceGvma => "hfence.gvma",
         },
+        Line::Interrupt => "interrupt",
         Line::Show => "show",
-        _ => return None,
+        Line::Image { .. }
+        | Line::File { .. }
+        | Line::Put { .. }
+        | Line::Hart { .. }
+        | Line::Reg { .. } => return None,
     };
     Some(word)
 }
@@ -183,27 +198,44 @@ impl Coverage {
                     count(&mut self.rules, why.key());
                 }
             }
-            Answer::Register(accessed) => self.note_ending(word, &accessed.outcome.ending),
-            Answer::Event(outcome) => self.note_ending(word, &outcome.ending),
+            Answer::Register(accessed) => self.note_ending(word, before, &accessed.outcome.ending),
+            Answer::Event(outcome) => self.note_ending(word, before, &outcome.ending),
         }
         if let Some(mode) = before.checked_mode() {
-            self.note_mode(line, word, mode);
+            self.note_mode(line, word, before, mode, answer);
         }
     }
 
-    fn note_ending(&mut self, word: &'static str, ending: &Ending) {
+    fn note_ending(&mut self, word: &'static str, before: &Hart, ending: &Ending) {
         match ending {
             Ending::Refused(number) => count(&mut self.refused_words, (word, *number)),
-            Ending::Trapped(trap, target) => count(&mut self.delivered, (trap.cause, *target)),
+            Ending::Trapped(trap, target) => {
+                count(&mut self.delivered, (trap.cause, *target));
+                self.interrupts.note_exception(before, trap.cause, *target);
+            }
             Ending::Done => {}
         }
     }
 
-    fn note_mode(&mut self, line: &Line, word: &'static str, mode: Mode) {
-        match line {
-            Line::Instruction(_) => count(&mut self.instructions, (word, mode)),
-            Line::Register { number, .. } if find(*number).is_some() => {
+    /// Notes what depends on the mode of a hart that passes.
+    fn note_mode(
+        &mut self,
+        line: &Line,
+        word: &'static str,
+        before: &Hart,
+        mode: Mode,
+        answer: &Answer,
+    ) {
+        match (line, answer) {
+            (Line::Instruction(_), _) => count(&mut self.instructions, (word, mode)),
+            (Line::Interrupt, Answer::Event(outcome)) => {
+                self.interrupts.note(before, mode, outcome);
+            }
+            (Line::Register { number, action }, Answer::Register(accessed))
+                if find(*number).is_some() =>
+            {
                 count(&mut self.registers, (*number, mode));
+                self.bits.note(before, mode, *number, *action, accessed);
             }
             _ => {}
         }
@@ -282,6 +314,8 @@ impl Coverage {
         add(&mut self.instructions, &other.instructions);
         add(&mut self.registers, &other.registers);
         add(&mut self.translations, &other.translations);
+        self.interrupts.add(&other.interrupts);
+        self.bits.add(&other.bits);
         add(&mut self.refused_words, &other.refused_words);
         add(&mut self.flips, &other.flips);
         add(&mut self.refusals, &other.refusals);
@@ -368,6 +402,11 @@ impl Coverage {
                 }
             }
         }
+        if !self.refused_words.contains_key(&("interrupt", 2)) {
+            missing.push("a refused interrupt".to_string());
+        }
+        missing.extend(self.interrupts.missing());
+        missing.extend(self.bits.missing());
         if self.bad_lines == 0 {
             missing.push("a bad line".to_string());
         }
@@ -425,6 +464,8 @@ impl Coverage {
             self.flips.len(),
             2 * hart_bits() * Mode::ALL.len()
         );
+        self.interrupts.table(text);
+        self.bits.table(text);
     }
 
     fn table_of_answers(&self, text: &mut String) {
@@ -644,6 +685,12 @@ mod tests {
             "a list of 15 reads",
             "cause 23 delivered to M",
             "the event word wfi",
+            "the event word interrupt",
+            "a refused interrupt",
+            "interrupt 10 to VS alone in Vu, enable bits [false, false, false]",
+            "interrupt 9 to M with interrupt 2 to VS due",
+            "no interrupt pending in Hs",
+            "bits 222 of 144 in Vs: 1 written and not handed down",
             "a bad line",
         ] {
             assert!(
@@ -651,7 +698,7 @@ mod tests {
                 "{needed}"
             );
         }
-        assert!(missing.len() > 300);
+        assert!(missing.len() > 1500);
     }
 
     #[test]
@@ -670,7 +717,7 @@ mod tests {
         note(&good, |hart| hart.pc ^= 1 << 63);
         note(&good, |hart| hart.hgatp ^= 4);
         assert_eq!(coverage.flipped(Mode::M, Meeting::Event), 2);
-        let flips = [(2, 63), (29, 2)].map(|(word, bit)| ((Mode::M, Meeting::Event, word, bit), 1));
+        let flips = [(2, 63), (33, 2)].map(|(word, bit)| ((Mode::M, Meeting::Event, word, bit), 1));
         assert_eq!(coverage.flips, BTreeMap::from(flips));
     }
 

@@ -85,7 +85,7 @@ const NO_NUMBERS: [&[u8]; 14] = [
 ];
 
 /// Words of the language and near misses.
-const WORDS: [&[u8]; 28] = [
+const WORDS: [&[u8]; 30] = [
     b"image",
     b"file",
     b"put",
@@ -107,9 +107,11 @@ const WORDS: [&[u8]; 28] = [
     b"sfence.vma",
     b"hfence.vvma",
     b"hfence.gvma",
+    b"interrupt",
     b"show",
     b"Show",
     b"loads",
+    b"interrupts",
     b"hfence",
     b"error",
     b"exit",
@@ -189,7 +191,7 @@ fn random_words(rng: &mut Rng) -> Vec<u8> {
 
 fn good_script(rng: &mut Rng, corpus: &Corpus, folder: &Path) -> Vec<u8> {
     match rng.below(4) {
-        0 => bad_script(rng.bits(), 0, folder).0.bytes(),
+        0 => bad_script(rng.bits(), rng.below(1000), folder).0.bytes(),
         1 => script(rng.bits(), 0, 1, folder).0.bytes(),
         _ if corpus.0.is_empty() => script(rng.bits(), 0, 1, folder).0.bytes(),
         _ => corpus.0[rng.below(corpus.0.len() as u64) as usize].clone(),

@@ -6,7 +6,9 @@ use second::hart::Mode;
 
 use crate::coverage::Coverage;
 use crate::program::Script;
-use crate::scenes::{bad, edges, flips, journeys, long, refusals, registers, traps, walks};
+use crate::scenes::{
+    bad, edges, flips, interrupts, journeys, long, refusals, registers, traps, walks,
+};
 use crate::scribe::Scribe;
 
 /// How many of a hundred scripts ask for reasons too.
@@ -42,6 +44,16 @@ pub fn flips_script(seed: u64, mode: Mode, folder: &Path) -> (Script, Coverage) 
     (script, coverage)
 }
 
+/// A script with everything that interrupts can come to in this mode. It always asks for reasons too.
+pub fn interrupts_script(seed: u64, mode: Mode, folder: &Path) -> (Script, Coverage) {
+    let place = !(mode as u64 + Mode::ALL.len() as u64);
+    let mut scribe = Scribe::new(script_seed(seed, place), folder.to_path_buf());
+    interrupts::all_in_turn(&mut scribe, mode);
+    let (mut script, coverage) = finished(scribe);
+    script.explained = true;
+    (script, coverage)
+}
+
 /// A script with one of the longest lines, or with one that is a byte longer and bad, by its place in the run.
 pub fn long_script(seed: u64, place: u64, folder: &Path) -> (Script, Coverage) {
     let mut scribe = Scribe::new(
@@ -53,7 +65,7 @@ pub fn long_script(seed: u64, place: u64, folder: &Path) -> (Script, Coverage) {
     finished(scribe)
 }
 
-/// A small script that ends at a bad line.
+/// A small script that ends at a bad line: by its place in the run, one of those that are always bad, or another.
 pub fn bad_script(seed: u64, place: u64, folder: &Path) -> (Script, Coverage) {
     let mut scribe = Scribe::new(script_seed(!seed, place), folder.to_path_buf());
     for _ in 0..scribe.rng.below(4) {
@@ -64,6 +76,7 @@ pub fn bad_script(seed: u64, place: u64, folder: &Path) -> (Script, Coverage) {
             "hart 1 1 0",
             "read 300",
             "load 80000000 8",
+            "interrupt",
         ]);
         scribe.line(line);
         if scribe.rng.chance(20) {
@@ -74,7 +87,7 @@ pub fn bad_script(seed: u64, place: u64, folder: &Path) -> (Script, Coverage) {
             scribe.lines.push(blank.to_vec());
         }
     }
-    bad::end_badly(&mut scribe);
+    bad::end_in_turn(&mut scribe, place);
     finished(scribe)
 }
 
@@ -126,7 +139,7 @@ impl Sweep {
 
 /// One scene. Half of all events are translations through tables.
 fn scene(scribe: &mut Scribe) {
-    match scribe.rng.below(98) {
+    match scribe.rng.below(113) {
         0..=29 => walks::walks(scribe),
         30..=44 => registers::accesses(scribe),
         45..=49 => registers::write_rules(scribe),
@@ -137,7 +150,10 @@ fn scene(scribe: &mut Scribe) {
         89 => refusals::modes_and_pcs(scribe),
         90 => refusals::mprv_everywhere(scribe),
         91..=93 => refusals::fields(scribe),
-        94..=96 => edges::edges(scribe),
+        94 => refusals::interrupt_bits(scribe),
+        95..=97 => edges::edges(scribe),
+        98..=105 => interrupts::events(scribe),
+        106..=111 => interrupts::views(scribe),
         _ if scribe.rng.chance(20) => edges::large_images(scribe),
         _ => edges::files(scribe),
     }

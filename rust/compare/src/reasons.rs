@@ -7,11 +7,13 @@ use std::sync::LazyLock;
 use second::address::GuestPhysical;
 use second::hart::{BadHart, Mode};
 use second::image::BadImage;
+use second::interrupts::{self, Interrupt, Rule};
 use second::reasons::Reason;
 use second::registers::{after_write, wrong, Level, Row, Wrong, ROWS};
-use second::trap::{BadRequest, Control, Forbidden, Refusal};
+use second::trap::{BadRequest, Control, Forbidden, Refusal, Target};
 use second::walk::{BadAccess, Why};
 
+use crate::coverage::interrupts::{passes, ways};
 use crate::coverage::{is_stored, reachable_rules, CAUSES};
 
 /// What a line with a reason begins with.
@@ -115,6 +117,7 @@ fn all() -> Vec<Reason> {
         });
     let mut reasons: Vec<Reason> = refusals.map(Reason::Refused).collect();
     reasons.extend(forbidden().into_iter().map(Reason::Forbidden));
+    reasons.extend(interrupts().into_iter().map(Reason::Interrupt));
     reasons.extend(rules.map(Reason::Fault));
     reasons
 }
@@ -215,6 +218,35 @@ fn forbidden() -> Vec<Forbidden> {
     rules
 }
 
+/// Interrupts: none pending or enabled; each one to each level in each mode, where the level's bit decides both ways.
+fn interrupts() -> Vec<interrupts::Why> {
+    let mut whys = vec![interrupts::Why::NonePending, interrupts::Why::NoneEnabled];
+    for (number, level) in ways() {
+        for rule in Mode::ALL.into_iter().flat_map(|mode| rules_in(mode, level)) {
+            let interrupt = Interrupt {
+                number,
+                level,
+                rule,
+            };
+            whys.push(if rule.passes() {
+                interrupts::Why::Taken(interrupt)
+            } else {
+                interrupts::Why::Waits(interrupt)
+            });
+        }
+    }
+    whys
+}
+
+/// What a level's rule can say in a mode: always, never, or by its bit.
+fn rules_in(mode: Mode, level: Target) -> Vec<Rule> {
+    match [[true; 3], [false; 3]].map(|enables| passes(level, mode, enables)) {
+        [true, true] => vec![Rule::Always(mode)],
+        [false, false] => vec![Rule::Never(mode)],
+        _ => vec![Rule::Enable(true), Rule::Enable(false)],
+    }
+}
+
 /// "M reaches all; HS all but M's; U none"; in VS S's numbers alone, in VU none.
 fn reaches(mode: Mode, row: &Row) -> bool {
     match mode {
@@ -272,6 +304,14 @@ mod tests {
                 "hgatp (680): MODE is f; it may hold 0 or 8",
                 Some("hgatp (680): MODE is *; it may hold 0 or 8"),
             ),
+            ("mideleg (303): bit 6 is 0; it may hold 1", Some("mideleg (303): bit 6 is 0; it may hold 1")),
+            ("mideleg (303): bit 5 is 0; it may hold 1", None),
+            (
+                "interrupt a would go to VS, bit 10 of hideleg is 1; HS is outside the guest",
+                Some("interrupt a would go to VS, bit 10 of hideleg is 1; HS is outside the guest"),
+            ),
+            ("interrupt a goes to M, bit 10 of mideleg is 0; HS is below M", None),
+            ("interrupt 9 goes to HS, bit 9 of hideleg is 0; HS is below HS", None),
         ] {
             assert_eq!(kind(text), expected, "{text}");
         }
@@ -279,7 +319,7 @@ mod tests {
 
     #[test]
     fn each_kind_is_there_once_and_finds_itself() {
-        assert_eq!(KINDS.count(), 638);
+        assert_eq!(KINDS.count(), 999);
         for kind in 0..KINDS.count() {
             let text = KINDS.text(kind).replace(STAR, "0");
             assert_eq!(KINDS.find(&text), Some(kind), "{text}");
@@ -301,8 +341,13 @@ mod tests {
             ("sepc", 2),
             ("hedeleg", 64 - 12),
             ("medeleg", 64 - 18),
+            ("mideleg", 64 - 3),
+            ("mie", 64 - 9),
+            ("mip", 64 - 9),
+            ("hideleg", 64 - 3),
             ("sscratch", 0),
             ("sstatus", 0),
+            ("hie", 0),
         ] {
             assert_eq!(count(register), fields, "{register}");
         }

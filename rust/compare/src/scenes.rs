@@ -3,6 +3,7 @@
 pub mod bad;
 pub mod edges;
 pub mod flips;
+pub mod interrupts;
 pub mod journeys;
 pub mod long;
 pub mod refusals;

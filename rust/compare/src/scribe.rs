@@ -4,9 +4,10 @@
 use std::path::PathBuf;
 
 use second::hart::{Hart, Mode};
-use second::registers::{after_write, Row, MPRV, ROWS};
+use second::registers::{after_write, Row, MIP, MPRV, ROWS};
 use second::script::{parse, Answer, Session};
 
+use crate::coverage::bits::REGISTERS;
 use crate::coverage::Coverage;
 use crate::rng::Rng;
 
@@ -151,12 +152,22 @@ impl Scribe {
     pub fn content(&mut self, row: &Row) -> u64 {
         let start = after_write(row, 0, 0);
         let value = self.value_for(row);
-        after_write(row, start, value)
+        match row.number {
+            // Some of its bits come in with the hart.
+            MIP => value & row.stored,
+            _ => after_write(row, start, value),
+        }
     }
 
-    /// A value for a write to this register: for satp, vsatp and hgatp the MODE is often one that is taken.
+    /// A value for a write to this register: for satp, vsatp and hgatp the MODE is often one that is taken, for the registers
+    /// of interrupts the value often has one bit of the low twelve, or all but one.
     pub fn value_for(&mut self, row: &Row) -> u64 {
         let value = self.rng.number();
+        let of_interrupts = REGISTERS.iter().any(|one| one.number == row.number);
+        if of_interrupts && self.rng.chance(40) {
+            let bit = 1 << self.rng.below(12);
+            return self.rng.pick(&[bit, !bit, 0xfff & !bit]);
+        }
         let is_atp = matches!(row.name, "satp" | "vsatp" | "hgatp");
         if is_atp && self.rng.chance(70) {
             let mode = self.rng.pick(&[0, 8]);

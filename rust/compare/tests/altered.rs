@@ -6,15 +6,20 @@ use std::io;
 use compare::comparing::{compare, Difference, Failure, Options, FULL_RUN};
 use compare::coverage::Meeting;
 use compare::program::{model, Folder, InProcess, Outcome, Perform, Program, Script, Status};
+use second::access::Action;
 use second::address::GuestPhysical;
 use second::bits::{bit, with_bit};
-use second::hart::{BadHart, Mode};
+use second::hart::{BadHart, Hart, Mode};
 use second::image::BadImage;
+use second::interrupts::{self, Rule as LevelRule};
 use second::lines::LONGEST_LINE;
 use second::reasons::Reason;
-use second::registers::{mpp, Wrong, MPV, MXR, ROWS, SPVP, SUM};
+use second::registers::{
+    mpp, Wrong, HGEIE, HGEIP, HIP, HVIP, MIDELEG, MIE, MIP, MPV, MXR, ROWS, SIE, SIE_REGISTER, SIP,
+    SPVP, SUM, VSIE,
+};
 use second::script::{Answer, Bad, Instruction, Line, Session};
-use second::trap::{BadRequest, Control, Ending, Forbidden, Refusal, Target};
+use second::trap::{BadRequest, Control, Ending, Forbidden, Refusal, Target, INTERRUPT_BIT};
 use second::walk::{self, effective_mode, Access, BadAccess, Part, Rule, Why};
 
 /// Compares the model with an altered copy over at most this many events.
@@ -81,7 +86,7 @@ fn caught(perform: Perform, lines: usize) -> Difference {
 fn with_other_hart(
     session: &mut Session,
     line: &Line,
-    change: fn(&mut second::hart::Hart),
+    change: fn(&mut Hart),
 ) -> Result<Answer, Bad> {
     let hart = session.hart;
     change(&mut session.hart);
@@ -412,10 +417,410 @@ fn a_copy_that_overlooks_one_bit() {
     assert!(difference.second.output.starts_with(b"refused 2\n"));
 }
 
+// Copies with a slip in what change request 2026-01 asks for.
+
+/// The model's interrupt with only these bits of mip pending; mip itself stays.
+fn with_pending(session: &mut Session, line: &Line, pending: u64) -> Result<Answer, Bad> {
+    let mip = session.hart.mip;
+    session.hart.mip &= pending;
+    let answer = session.perform(line);
+    session.hart.mip = mip;
+    answer
+}
+
+/// The model, where an `interrupt` finds only those pending that `left` leaves of a hart in this mode.
+fn interrupt_with(
+    session: &mut Session,
+    line: &Line,
+    left: fn(&Hart, Mode) -> u64,
+) -> Result<Answer, Bad> {
+    match (line, session.hart.checked_mode()) {
+        (Line::Interrupt, Some(mode)) => {
+            let pending = left(&session.hart, mode);
+            with_pending(session, line, pending)
+        }
+        _ => session.perform(line),
+    }
+}
+
+/// The model with another hart after an `interrupt` that was taken into this level.
+fn taken_with(
+    session: &mut Session,
+    line: &Line,
+    change: fn(&mut Hart, &Hart, Target),
+) -> Result<Answer, Bad> {
+    let before = session.hart;
+    let answer = session.perform(line)?;
+    if let (Line::Interrupt, Answer::Event(outcome)) = (line, &answer) {
+        if let Ending::Trapped(_, level) = outcome.ending {
+            change(&mut session.hart, &before, level);
+        }
+    }
+    Ok(answer)
+}
+
+/// The model with another hart after a write to the register with this number in M or HS.
+fn written_with(
+    session: &mut Session,
+    line: &Line,
+    register: u64,
+    change: fn(&mut Hart, u64),
+) -> Result<Answer, Bad> {
+    let v = session.hart.v;
+    let answer = session.perform(line)?;
+    let (Line::Register { number, action }, Answer::Register(accessed)) = (line, &answer) else {
+        return Ok(answer);
+    };
+    if (v, *number) == (0, register) && accessed.outcome.ending == Ending::Done {
+        match action {
+            Action::Write(value) => change(&mut session.hart, *value),
+            Action::Set { value, writes } if *writes => {
+                change(&mut session.hart, accessed.old | value);
+            }
+            Action::Clear { value, writes } if *writes => {
+                change(&mut session.hart, accessed.old & !value);
+            }
+            _ => {}
+        }
+    }
+    Ok(answer)
+}
+
+/// The bits of `to` where `mask` has them, else those of `from`.
+fn mixed(from: u64, to: u64, mask: u64) -> u64 {
+    (from & !mask) | (to & mask)
+}
+
+/// The slips in what an interrupt does.
+const INTERRUPT_SLIPS: [(&str, Perform); 20] = [
+    ("VS before HS", |session, line| {
+        interrupt_with(session, line, |hart, mode| {
+            let guest = mode == Mode::Vu || (mode == Mode::Vs && bit(hart.vsstatus, SIE));
+            let to_m = hart.mip & hart.mie & !hart.mideleg != 0;
+            let to_vs = hart.mip & hart.mie & hart.hideleg;
+            if guest && !to_m && to_vs != 0 {
+                to_vs
+            } else {
+                u64::MAX
+            }
+        })
+    }),
+    ("HS before M", |session, line| {
+        interrupt_with(session, line, |hart, mode| {
+            let to_hs = hart.mip & hart.mie & hart.mideleg & !hart.hideleg;
+            if matches!(mode, Mode::U | Mode::Vu | Mode::Vs) && to_hs != 0 {
+                to_hs
+            } else {
+                u64::MAX
+            }
+        })
+    }),
+    ("9 after 1", |session, line| {
+        interrupt_with(session, line, |hart, _| {
+            let both = |bits: u64| bits & 0x202 == 0x202;
+            let one_level = both(hart.mideleg) || both(!hart.mideleg);
+            if both(hart.mip & hart.mie) && one_level {
+                !0x200
+            } else {
+                u64::MAX
+            }
+        })
+    }),
+    ("mstatus.SIE asked in VS", |session, line| {
+        interrupt_with(session, line, |hart, mode| {
+            if mode == Mode::Vs && !bit(hart.mstatus, SIE) {
+                !hart.mideleg | hart.hideleg
+            } else {
+                u64::MAX
+            }
+        })
+    }),
+    ("mstatus.MIE asked in every mode", |session, line| {
+        interrupt_with(session, line, |hart, _| {
+            if bit(hart.mstatus, MIE) {
+                u64::MAX
+            } else {
+                hart.mideleg
+            }
+        })
+    }),
+    ("VS's taken in HS", |session, line| {
+        if *line == Line::Interrupt && session.hart.checked_mode() == Some(Mode::Hs) {
+            let to_vs = session.hart.mip & session.hart.mie & session.hart.hideleg;
+            let others = session.hart.mip & session.hart.mie & !session.hart.hideleg;
+            if to_vs != 0 && others == 0 {
+                session.hart.v = 1;
+            }
+        }
+        session.perform(line)
+    }),
+    ("vsstatus.SIE asked in VU", |session, line| {
+        interrupt_with(session, line, |hart, mode| {
+            if mode == Mode::Vu && !bit(hart.vsstatus, SIE) {
+                !hart.hideleg
+            } else {
+                u64::MAX
+            }
+        })
+    }),
+    ("mie not asked", |session, line| {
+        let mie = session.hart.mie;
+        let interrupt = *line == Line::Interrupt && session.hart.checked_mode().is_some();
+        if interrupt {
+            session.hart.mie = 0xeee;
+        }
+        let answer = session.perform(line);
+        if interrupt {
+            session.hart.mie = mie;
+        }
+        answer
+    }),
+    ("10 written into VS as 10", |session, line| {
+        taken_with(session, line, |hart, _, level| {
+            if level == Target::Vs && hart.vscause == INTERRUPT_BIT | 9 {
+                hart.vscause += 1;
+            }
+        })
+    }),
+    ("VS's vector by mip's number", |session, line| {
+        taken_with(session, line, |hart, before, level| {
+            if level == Target::Vs && bit(before.vstvec, 0) {
+                hart.pc = hart.pc.wrapping_add(4);
+            }
+        })
+    }),
+    ("the interrupt bit not written into HS", |session, line| {
+        taken_with(session, line, |hart, _, level| {
+            if level == Target::Hs {
+                hart.scause &= !INTERRUPT_BIT;
+            }
+        })
+    }),
+    ("a vector that does not wrap", |session, line| {
+        taken_with(session, line, |hart, before, level| {
+            if level == Target::M && bit(before.mtvec, 0) && hart.pc < before.mtvec & !3 {
+                hart.pc = u64::MAX - 3;
+            }
+        })
+    }),
+    ("mip cleared by taking", |session, line| {
+        taken_with(session, line, |hart, before, level| {
+            if level == Target::M {
+                hart.mip = before.mip & !(1 << (hart.mcause & 15));
+            }
+        })
+    }),
+    ("mtval left as it was", |session, line| {
+        taken_with(session, line, |hart, before, level| {
+            if level == Target::M {
+                hart.mtval = before.mtval;
+            }
+        })
+    }),
+    ("hstatus.GVA left as it was", |session, line| {
+        taken_with(session, line, |hart, before, level| {
+            if level == Target::Hs {
+                hart.hstatus = mixed(hart.hstatus, before.hstatus, 1 << 6);
+            }
+        })
+    }),
+    ("sepc behind the instruction", |session, line| {
+        taken_with(session, line, |hart, _, level| {
+            if level == Target::Hs {
+                hart.sepc = hart.sepc.wrapping_add(4);
+            }
+        })
+    }),
+    ("nothing done", |session, line| {
+        let before = session.hart;
+        let answer = session.perform(line);
+        if *line == Line::Interrupt {
+            session.hart = before;
+        }
+        answer
+    }),
+    ("pc moved on where none is due", |session, line| {
+        let answer = session.perform(line)?;
+        if let (Line::Interrupt, Answer::Event(outcome)) = (line, &answer) {
+            if outcome.ending == Ending::Done {
+                session.hart = session.hart.moved_on();
+            }
+        }
+        Ok(answer)
+    }),
+    ("an exception vectored", |session, line| {
+        let before = session.hart;
+        let answer = session.perform(line)?;
+        if let Answer::Event(outcome) = &answer {
+            if let Ending::Trapped(trap, Target::M) = outcome.ending {
+                if bit(before.mtvec, 0) && trap.cause < INTERRUPT_BIT {
+                    session.hart.pc = session.hart.pc.wrapping_add(4 * trap.cause);
+                }
+            }
+        }
+        Ok(answer)
+    }),
+    (
+        "an interrupt that is never refused",
+        |session, line| match (line, session.hart.checked_mode()) {
+            (Line::Interrupt, None) => {
+                let hart = std::mem::replace(&mut session.hart, Hart::new(0, 3, 0));
+                let answer = session.perform(line);
+                session.hart = hart;
+                answer
+            }
+            _ => session.perform(line),
+        },
+    ),
+];
+
+/// The slips in the registers of interrupts.
+const REGISTER_SLIPS: [(&str, Perform); 14] = [
+    ("sip's 5 written", |session, line| {
+        written_with(session, line, SIP, |hart, value| {
+            hart.mip = mixed(hart.mip, value, hart.mideleg & 0x20);
+        })
+    }),
+    ("mip's 11 written", |session, line| {
+        written_with(session, line, MIP, |hart, value| {
+            hart.mip = mixed(hart.mip, value, 0x800);
+        })
+    }),
+    ("mip's 6 written", |session, line| {
+        written_with(session, line, MIP, |hart, value| {
+            hart.mip = mixed(hart.mip, value, 0x40);
+        })
+    }),
+    ("hip's 10 written", |session, line| {
+        written_with(session, line, HIP, |hart, value| {
+            hart.mip = mixed(hart.mip, value, 0x400);
+        })
+    }),
+    ("hvip's 6 not written", |session, line| {
+        let mip = session.hart.mip;
+        let answer = session.perform(line);
+        if let Line::Register { number: HVIP, .. } = line {
+            session.hart.mip = mixed(session.hart.mip, mip, 0x40);
+        }
+        answer
+    }),
+    (
+        "sie's bits written where mideleg lacks them",
+        |session, line| {
+            written_with(session, line, SIE_REGISTER, |hart, value| {
+                hart.mie = mixed(hart.mie, value, 0x222);
+            })
+        },
+    ),
+    ("vsie not gated", |session, line| match line {
+        Line::Register { number: VSIE, .. } => gated_by_all(session, line),
+        _ => session.perform(line),
+    }),
+    ("vsip in VS not gated", |session, line| match line {
+        Line::Register { number: SIP, .. } if session.hart.v == 1 => gated_by_all(session, line),
+        _ => session.perform(line),
+    }),
+    ("sie in VS is sie", |session, line| {
+        let in_vs = session.hart.checked_mode() == Some(Mode::Vs);
+        match line {
+            Line::Register {
+                number: SIE_REGISTER,
+                ..
+            } if in_vs => {
+                session.hart = session.hart.in_mode(Mode::Hs);
+                let answer = session.perform(line);
+                session.hart = session.hart.in_mode(Mode::Vs);
+                answer
+            }
+            _ => session.perform(line),
+        }
+    }),
+    ("mideleg's 2 not read as one", |session, line| {
+        let mut answer = session.perform(line)?;
+        if let (
+            Line::Register {
+                number: MIDELEG, ..
+            },
+            Answer::Register(accessed),
+        ) = (line, &mut answer)
+        {
+            accessed.old &= !4;
+        }
+        Ok(answer)
+    }),
+    ("mideleg's 7 written", |session, line| {
+        written_with(session, line, MIDELEG, |hart, value| {
+            hart.mideleg = mixed(hart.mideleg, value, 0x80);
+        })
+    }),
+    ("hgeie not written", |session, line| match line {
+        // As if it were read-only.
+        Line::Register {
+            number: HGEIE,
+            action,
+        } if action.writes() => {
+            let (number, action) = (HGEIP, *action);
+            session.perform(&Line::Register { number, action })
+        }
+        _ => session.perform(line),
+    }),
+    (
+        "a hart whose mip has 3, 7 or 11 refused",
+        |session, line| {
+            let mip = session.hart.mip;
+            if *line != Line::Interrupt || mip & 0x888 == 0 {
+                return session.perform(line);
+            }
+            session.hart.mip |= 1;
+            let answer = session.perform(line);
+            session.hart.mip = mip;
+            answer
+        },
+    ),
+    ("a hart whose mideleg lacks 6 taken", |session, line| {
+        if *line == Line::Interrupt {
+            let mut hart = session.hart;
+            hart.mideleg |= 0x40;
+            if hart.checked_mode().is_some() {
+                session.hart = hart;
+            }
+        }
+        session.perform(line)
+    }),
+];
+
+/// The model with all of hideleg's bits for this one line.
+fn gated_by_all(session: &mut Session, line: &Line) -> Result<Answer, Bad> {
+    let hideleg = session.hart.hideleg;
+    if session.hart.checked_mode().is_none() {
+        return session.perform(line);
+    }
+    session.hart.hideleg = 0x444;
+    let answer = session.perform(line);
+    session.hart.hideleg = hideleg;
+    answer
+}
+
+#[test]
+fn copies_with_a_slip_in_interrupts() {
+    for (slip, perform) in INTERRUPT_SLIPS {
+        println!("{slip}");
+        caught(perform, 12);
+    }
+}
+
+#[test]
+fn copies_with_a_slip_in_the_registers_of_interrupts() {
+    for (slip, perform) in REGISTER_SLIPS {
+        println!("{slip}");
+        caught(perform, 12);
+    }
+}
+
 // Copies whose answers are right, and only a reason is wrong.
 
 /// The wrong reasons.
-const WRONG_REASONS: [fn(&mut Reason); 22] = [
+const WRONG_REASONS: [fn(&mut Reason); 28] = [
     // Faults.
     |reason| fault(reason, |why| why.level = why.level.map(|level| level ^ 1)),
     |reason| {
@@ -568,7 +973,62 @@ const WRONG_REASONS: [fn(&mut Reason); 22] = [
             }
         })
     },
+    // Interrupts.
+    |reason| {
+        interrupt(reason, |why| {
+            if let interrupts::Why::Taken(due) = why {
+                due.number -= u32::from(due.level == Target::Vs);
+            }
+        })
+    },
+    |reason| {
+        interrupt(reason, |why| {
+            if *why == interrupts::Why::NoneEnabled {
+                *why = interrupts::Why::NonePending;
+            }
+        })
+    },
+    |reason| {
+        interrupt(reason, |why| {
+            if let interrupts::Why::Waits(waiting) = why {
+                if waiting.rule == LevelRule::Never(Mode::U) {
+                    waiting.rule = LevelRule::Never(Mode::Hs);
+                }
+            }
+        })
+    },
+    |reason| {
+        interrupt(reason, |why| {
+            if let interrupts::Why::Waits(waiting) = why {
+                if (waiting.level, waiting.number) == (Target::Hs, 5) {
+                    waiting.number = 9;
+                }
+            }
+        })
+    },
+    |reason| {
+        interrupt(reason, |why| {
+            if let interrupts::Why::Taken(due) = why {
+                if due.rule == LevelRule::Always(Mode::Vs) {
+                    due.rule = LevelRule::Enable(true);
+                }
+            }
+        })
+    },
+    |reason| {
+        refusal(reason, |refusal| {
+            if let Refusal::Hart(BadHart::Register(row, Wrong::ClearBit(bit))) = refusal {
+                *refusal = Refusal::Hart(BadHart::Register(row, Wrong::Bit(*bit)));
+            }
+        })
+    },
 ];
+
+fn interrupt(reason: &mut Reason, change: fn(&mut interrupts::Why)) {
+    if let Reason::Interrupt(why) = reason {
+        change(why);
+    }
+}
 
 fn fault(reason: &mut Reason, change: fn(&mut Why)) {
     if let Reason::Fault(why) = reason {
@@ -646,6 +1106,12 @@ fn copies_with_a_wrong_reason() {
         wrong_reason::<19>,
         wrong_reason::<20>,
         wrong_reason::<21>,
+        wrong_reason::<22>,
+        wrong_reason::<23>,
+        wrong_reason::<24>,
+        wrong_reason::<25>,
+        wrong_reason::<26>,
+        wrong_reason::<27>,
     ];
     for (place, perform) in copies.into_iter().enumerate() {
         println!("wrong reason {place}");
@@ -820,9 +1286,21 @@ fn a_run_reaches_everything() {
     };
     assert_eq!(coverage.missing(), Vec::<String>::new());
     assert_eq!(coverage.missing_reasons(), Vec::<String>::new());
-    assert_eq!(coverage.flips.len(), 5 * 2 * 30 * 64);
+    assert_eq!(coverage.flips.len(), 5 * 2 * 34 * 64);
     coverage.flips.remove(&(Mode::Vs, Meeting::Event, 2, 63));
     assert_eq!(coverage.missing(), ["1 flipped bits in Vs by Event"]);
+    let pair = ((9, Target::M), (2, Target::Vs));
+    assert!(coverage.interrupts.due.remove(&pair).is_some());
+    let bits = coverage.bits.cases.get_mut(&(SIP, Mode::Vs)).unwrap();
+    bits[7] ^= 0x20;
+    assert_eq!(
+        coverage.missing(),
+        [
+            "1 flipped bits in Vs by Event",
+            "interrupt 9 to M with interrupt 2 to VS due",
+            "bits 20 of 144 in Vs: 1 written and not handed down",
+        ]
+    );
     assert!(coverage.events >= 60_000);
     // Most translations get past the checks, and deep walks are common.
     let translations: u64 = coverage.translations.values().sum();

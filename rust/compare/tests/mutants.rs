@@ -54,7 +54,7 @@ const MUTANTS: &[Mutant] = &[
     Mutant("trap.rs", "    after.htval = trap.second;\n", ""),
     Mutant("trap.rs", "    after.mtinst = trap.word;\n", ""),
     Mutant("trap.rs", "after.vsstatus = with_bit(after.vsstatus, SIE, false);", ""),
-    Mutant("trap.rs", "after.pc = entry_point(hart.vstvec);", "after.pc = entry_point(hart.stvec);"),
+    Mutant("trap.rs", "after.pc = entry_point(hart.vstvec, trap.cause);", "after.pc = entry_point(hart.stvec, trap.cause);"),
     // calls.rs
     Mutant("calls.rs", "Mode::U | Mode::Vu => 8,\n        Mode::Hs => 9,", "Mode::U => 8,\n        Mode::Hs | Mode::Vu => 9,"),
     Mutant("calls.rs", "flag: mode.v(),", "flag: false,"),
@@ -75,10 +75,10 @@ const MUTANTS: &[Mutant] = &[
     Mutant("access.rs", "Level::S if row.number == SATP && bit(hart.hstatus, VTVM)", "Level::S if row.number == SATP && bit(hart.mstatus, TVM)"),
     Mutant("access.rs", "Level::S => vs_register_of(row).ok_or(illegal(out_of_reach)),", "Level::S => Ok(row),"),
     Mutant("access.rs", "Action::Set { writes, .. } | Action::Clear { writes, .. } => writes,", "Action::Set { writes, value } | Action::Clear { writes, value } => writes && value != 0,"),
-    Mutant("access.rs", "after_write(row, old, action.combined(old))", "after_write(row, old, match action { Action::Set { value, .. } if row.number == SATP => value, other => other.combined(old) })"),
+    Mutant("access.rs", "write(&mut after, row, action.combined(old))", "write(&mut after, row, match action { Action::Set { value, .. } if row.number == SATP => value, other => other.combined(old) })"),
     Mutant("access.rs", "outcome: trap::done(after.moved_on()),", "outcome: trap::done(if action.writes() && after_write(row, old, action.combined(old)) == old { *hart } else { after.moved_on() }),"),
     Mutant("access.rs", "Mode::U => Err(illegal(", "Mode::U => Err(virtual_instruction("),
-    Mutant("access.rs", "(hart.mstatus & !row.stored) | (new & row.stored)", "(hart.mstatus & !row.stored) | (new & row.stored & !(1 << 19))"),
+    Mutant("registers.rs", "(home & !written) | ((value << self.down) & written)", "(home & !written) | ((value << self.down) & written & !(1 << 19))"),
     // waits.rs
     Mutant("waits.rs", "    if mode == Mode::M {\n        return None;\n    }\n", ""),
     Mutant("waits.rs", "Mode::Vs if bit(hart.hstatus, VTW)", "Mode::Vs if bit(hart.hstatus, VTVM)"),
@@ -163,7 +163,7 @@ const MUTANTS: &[Mutant] = &[
     Mutant("access.rs", "        Level::Vs | Level::H => Err(virtual_instruction(", "        Level::Vs | Level::H => Err(illegal("),
     Mutant("access.rs", "Level::M => Err(illegal(out_of_reach)),\n        Level::S | Level::Vs", "Level::M => Err(virtual_instruction(out_of_reach)),\n        Level::S | Level::Vs"),
     Mutant("access.rs", "if row.level == Level::M {", "if false {"),
-    Mutant("access.rs", "(hart.mstatus & row.stored) | row.constant", "hart.mstatus & row.stored"),
+    Mutant("access.rs", "gate(hart, &view)) | row.constant", "gate(hart, &view))"),
     Mutant("walk.rs", "self.second_stage(GuestPhysical(place), Purpose::GuestEntry)", "self.second_stage(GuestPhysical(place), Purpose::Access)"),
     Mutant("walk.rs", "self.second_stage(GuestPhysical(place), Purpose::GuestEntry)", "Ok(Machine(place))"),
     Mutant("walk.rs", "Kind::Store => 6,", "Kind::Store => 7,"),
@@ -185,10 +185,10 @@ const MUTANTS: &[Mutant] = &[
     Mutant("walk.rs", "let guest = self.mode.v() && bit(self.hart.vsstatus, MXR);", "let guest = self.hart.v == 1 && bit(self.hart.vsstatus, MXR);"),
     Mutant("walk.rs", "guest || bit(self.hart.mstatus, MXR)", "guest || (bit(self.hart.mstatus, MXR) && !(self.mode.v() && self.hart.v == 0))"),
     Mutant("walk.rs", "let guest = self.mode.v() && bit(self.hart.vsstatus, MXR);", "let guest = (self.mode.v() || self.hart.privilege == 3) && bit(self.hart.vsstatus, MXR);"),
-    Mutant("access.rs", "let new = after_write(row, old, action.combined(old));", "let new = if row.number == 0x280 && hart.v == 0 { let value = action.combined(old); if value >> 60 == 0 || value >> 60 == 8 { value } else { (old & (15 << 60)) | (value & !(15 << 60)) } } else { after_write(row, old, action.combined(old)) };"),
-    Mutant("access.rs", "let new = after_write(row, old, action.combined(old));", "let new = if row.number == 0x280 && hart.v == 0 && ![0, 8].contains(&(action.combined(old) >> 60)) { 0 } else { after_write(row, old, action.combined(old)) };"),
-    Mutant("access.rs", "let new = after_write(row, old, action.combined(old));", "let new = if row.number == 0x280 && hart.v == 1 { let value = action.combined(old); if value >> 60 == 0 || value >> 60 == 8 { value } else { (old & (15 << 60)) | (value & !(15 << 60)) } } else { after_write(row, old, action.combined(old)) };"),
-    Mutant("access.rs", "let new = after_write(row, old, action.combined(old));", "let new = if row.number == 0x280 && hart.v == 1 && ![0, 8].contains(&(action.combined(old) >> 60)) { 0 } else { after_write(row, old, action.combined(old)) };"),
+    Mutant("access.rs", "write(&mut after, row, action.combined(old));", "if row.number == 0x280 && hart.v == 0 { let value = action.combined(old); after.vsatp = if value >> 60 == 0 || value >> 60 == 8 { value } else { (old & (15 << 60)) | (value & !(15 << 60)) }; } else { write(&mut after, row, action.combined(old)); }"),
+    Mutant("access.rs", "write(&mut after, row, action.combined(old));", "if row.number == 0x280 && hart.v == 0 && ![0, 8].contains(&(action.combined(old) >> 60)) { after.vsatp = 0; } else { write(&mut after, row, action.combined(old)); }"),
+    Mutant("access.rs", "write(&mut after, row, action.combined(old));", "if row.number == 0x280 && hart.v == 1 { let value = action.combined(old); after.vsatp = if value >> 60 == 0 || value >> 60 == 8 { value } else { (old & (15 << 60)) | (value & !(15 << 60)) }; } else { write(&mut after, row, action.combined(old)); }"),
+    Mutant("access.rs", "write(&mut after, row, action.combined(old));", "if row.number == 0x280 && hart.v == 1 && ![0, 8].contains(&(action.combined(old) >> 60)) { after.vsatp = 0; } else { write(&mut after, row, action.combined(old)); }"),
     Mutant("trap.rs", "    after.htval = trap.second;", "    if !matches!(trap.cause, 8..=11) { after.htval = trap.second; }"),
     Mutant("trap.rs", "    after.htinst = trap.word;", "    if !matches!(trap.cause, 8..=11) { after.htinst = trap.word; }"),
     Mutant("trap.rs", "    after.mtval2 = trap.second;", "    if !matches!(trap.cause, 8..=11) { after.mtval2 = trap.second; }"),
@@ -214,12 +214,130 @@ const MUTANTS: &[Mutant] = &[
     Mutant("walk.rs", "leaf_result(ppn, guest.0, level)", "leaf_result(ppn, guest.0, if level == 1 { 0 } else { level })"),
 ];
 
+/// Changes to what change request 2026-01 asks for.
+const INTERRUPTS: &[Mutant] = &[
+    // interrupts.rs
+    Mutant("interrupts.rs", "= [11, 3, 7, 9, 1, 5, 10, 2, 6]", "= [3, 11, 7, 9, 1, 5, 10, 2, 6]"),
+    Mutant("interrupts.rs", "= [11, 3, 7, 9, 1, 5, 10, 2, 6]", "= [11, 7, 3, 9, 1, 5, 10, 2, 6]"),
+    Mutant("interrupts.rs", "= [11, 3, 7, 9, 1, 5, 10, 2, 6]", "= [11, 3, 7, 1, 9, 5, 10, 2, 6]"),
+    Mutant("interrupts.rs", "= [11, 3, 7, 9, 1, 5, 10, 2, 6]", "= [11, 3, 7, 9, 5, 1, 10, 2, 6]"),
+    Mutant("interrupts.rs", "= [11, 3, 7, 9, 1, 5, 10, 2, 6]", "= [11, 3, 7, 9, 1, 5, 2, 10, 6]"),
+    Mutant("interrupts.rs", "= [11, 3, 7, 9, 1, 5, 10, 2, 6]", "= [11, 3, 7, 9, 1, 5, 10, 6, 2]"),
+    Mutant("interrupts.rs", "= [11, 3, 7, 9, 1, 5, 10, 2, 6]", "= [11, 3, 7, 10, 2, 6, 9, 1, 5]"),
+    Mutant("interrupts.rs", "= [11, 3, 7, 9, 1, 5, 10, 2, 6]", "= [9, 1, 5, 11, 3, 7, 10, 2, 6]"),
+    Mutant("interrupts.rs", "in_order.min_by_key(|interrupt| interrupt.level)", "{ let mut in_order = in_order; in_order.next() }"),
+    Mutant("interrupts.rs", "in_order.min_by_key(|interrupt| interrupt.level)", "in_order.min_by_key(|interrupt| std::cmp::Reverse(interrupt.level))"),
+    Mutant("interrupts.rs", "in_order.min_by_key(|interrupt| interrupt.level)", "in_order.min_by_key(|interrupt| match interrupt.level { Target::M => 0, Target::Vs => 1, Target::Hs => 2 })"),
+    Mutant("interrupts.rs", "in_order.min_by_key(|interrupt| interrupt.level)", "in_order.min_by_key(|interrupt| interrupt.level == Target::Vs)"),
+    Mutant("interrupts.rs", "(Target::M, Mode::U | Mode::Hs | Mode::Vu | Mode::Vs) => Rule::Always(mode),", "(Target::M, Mode::U | Mode::Hs | Mode::Vu | Mode::Vs) => Rule::Enable(bit(hart.mstatus, MIE)),"),
+    Mutant("interrupts.rs", "(Target::M, Mode::U | Mode::Hs | Mode::Vu | Mode::Vs) => Rule::Always(mode),", "(Target::M, Mode::Vu) => Rule::Never(mode),\n        (Target::M, Mode::U | Mode::Hs | Mode::Vu | Mode::Vs) => Rule::Always(mode),"),
+    Mutant("interrupts.rs", "(Target::Hs, Mode::U | Mode::Vu | Mode::Vs) => Rule::Always(mode),", "(Target::Hs, Mode::Vs) => Rule::Enable(bit(hart.mstatus, SIE)),\n        (Target::Hs, Mode::U | Mode::Vu | Mode::Vs) => Rule::Always(mode),"),
+    Mutant("interrupts.rs", "(Target::Hs, Mode::U | Mode::Vu | Mode::Vs) => Rule::Always(mode),", "(Target::Hs, Mode::U) => Rule::Enable(bit(hart.mstatus, SIE)),\n        (Target::Hs, Mode::U | Mode::Vu | Mode::Vs) => Rule::Always(mode),"),
+    Mutant("interrupts.rs", "(Target::Hs, Mode::U | Mode::Vu | Mode::Vs) => Rule::Always(mode),", "(Target::Hs, Mode::Vs) => Rule::Enable(bit(hart.vsstatus, SIE)),\n        (Target::Hs, Mode::U | Mode::Vu | Mode::Vs) => Rule::Always(mode),"),
+    Mutant("interrupts.rs", "(Target::Hs, Mode::M) => Rule::Never(mode),", "(Target::Hs, Mode::M) => Rule::Enable(bit(hart.mstatus, MIE)),"),
+    Mutant("interrupts.rs", "(Target::Hs, Mode::M) => Rule::Never(mode),", "(Target::Hs, Mode::M) => Rule::Enable(bit(hart.mstatus, SIE)),"),
+    Mutant("interrupts.rs", "(Target::Vs, Mode::Vu) => Rule::Always(mode),", "(Target::Vs, Mode::Vu) => Rule::Enable(bit(hart.vsstatus, SIE)),"),
+    Mutant("interrupts.rs", "(Target::Vs, Mode::U | Mode::Hs | Mode::M) => Rule::Never(mode),", "(Target::Vs, Mode::U) => Rule::Always(mode),\n        (Target::Vs, Mode::U | Mode::Hs | Mode::M) => Rule::Never(mode),"),
+    Mutant("interrupts.rs", "(Target::Vs, Mode::U | Mode::Hs | Mode::M) => Rule::Never(mode),", "(Target::Vs, Mode::Hs) => Rule::Enable(bit(hart.vsstatus, SIE)),\n        (Target::Vs, Mode::U | Mode::Hs | Mode::M) => Rule::Never(mode),"),
+    Mutant("interrupts.rs", "(Target::Vs, Mode::U | Mode::Hs | Mode::M) => Rule::Never(mode),", "(Target::Vs, Mode::M) => Rule::Enable(bit(hart.mstatus, MIE)),\n        (Target::Vs, Mode::U | Mode::Hs | Mode::M) => Rule::Never(mode),"),
+    Mutant("interrupts.rs", "(Target::Vs, Mode::Vs) => Rule::Enable(bit(hart.vsstatus, SIE)),", "(Target::Vs, Mode::Vs) => Rule::Enable(bit(hart.mstatus, SIE)),"),
+    Mutant("interrupts.rs", "(Target::Hs, Mode::Hs) => Rule::Enable(bit(hart.mstatus, SIE)),", "(Target::Hs, Mode::Hs) => Rule::Enable(bit(hart.vsstatus, SIE)),"),
+    Mutant("interrupts.rs", "(Target::M, Mode::M) => Rule::Enable(bit(hart.mstatus, MIE)),", "(Target::M, Mode::M) => Rule::Enable(bit(hart.mstatus, SIE)),"),
+    Mutant("interrupts.rs", "(Target::Vs, 10) => 9,", "(Target::Vs, 10) => 10,"),
+    Mutant("interrupts.rs", "(Target::Vs, 10) => 9,", "(_, 10) => 9,"),
+    Mutant("interrupts.rs", "(Target::Vs, 2) => 1,", "(Target::Vs, 2) => 2,"),
+    Mutant("interrupts.rs", "(Target::Vs, 6) => 5,", "(Target::Vs, 6) => 6,"),
+    Mutant("interrupts.rs", "INTERRUPT_BIT | u64::from(number)", "u64::from(number)"),
+    Mutant("interrupts.rs", "bit(hart.mip & hart.mie, *number)", "bit(hart.mip, *number)"),
+    Mutant("interrupts.rs", "bit(hart.mip & hart.mie, *number)", "bit(hart.mip | hart.mie, *number)"),
+    Mutant("interrupts.rs", "if !bit(hart.mideleg, number) {", "if !bit(hart.mideleg, number) && number != 5 {"),
+    Mutant("interrupts.rs", "} else if !bit(hart.hideleg, number) {", "} else if !bit(hart.hideleg, number) || number == 6 {"),
+    Mutant("interrupts.rs", "let after = deliver_to(due.level, hart, mode, &trap);", "let mut after = deliver_to(due.level, hart, mode, &trap);\n    after.mip &= !(1 << due.number);"),
+    Mutant("interrupts.rs", "let after = deliver_to(due.level, hart, mode, &trap);", "let mut after = deliver_to(due.level, hart, mode, &trap);\n    after.mip &= !(0x226 & (1 << due.number));"),
+    Mutant("interrupts.rs", "let after = deliver_to(due.level, hart, mode, &trap);", "let after = deliver_to(due.level, &hart.moved_on(), mode, &trap);"),
+    Mutant("interrupts.rs", "(*hart, Ending::Done)", "(hart.moved_on(), Ending::Done)"),
+    Mutant("interrupts.rs", "let trap = Trap::plain(written_cause(due));", "let trap = Trap { flag: mode.v(), ..Trap::plain(written_cause(due)) };"),
+    Mutant("interrupts.rs", "let trap = Trap::plain(written_cause(due));", "let trap = Trap { value: hart.pc, ..Trap::plain(written_cause(due)) };"),
+    Mutant("interrupts.rs", "let after = deliver_to(due.level, hart, mode, &trap);", "let mut after = deliver_to(due.level, hart, mode, &trap);\n    (after.htval, after.htinst) = (hart.htval, hart.htinst);"),
+    Mutant("interrupts.rs", "let after = deliver_to(due.level, hart, mode, &trap);", "let mut after = deliver_to(due.level, hart, mode, &trap);\n    (after.mtval2, after.mtinst) = (hart.mtval2, hart.mtinst);"),
+    Mutant("interrupts.rs", "let after = deliver_to(due.level, hart, mode, &trap);", "let mut after = deliver_to(due.level, hart, mode, &trap);\n    if due.level == Target::Vs { after.vstval = hart.vstval; }"),
+    Mutant("interrupts.rs", "let after = deliver_to(due.level, hart, mode, &trap);", "let mut after = deliver_to(due.level, hart, mode, &trap);\n    if mode == Mode::M { after.mstatus &= !(1 << 17); }"),
+    Mutant("interrupts.rs", "let after = deliver_to(due.level, hart, mode, &trap);", "let mut after = deliver_to(due.level, hart, mode, &trap);\n    if (due.level, mode) == (Target::Hs, Mode::Hs) { after.hstatus |= 1 << 8; }"),
+    Mutant("interrupts.rs", "let after = deliver_to(due.level, hart, mode, &trap);", "let mut after = deliver_to(due.level, hart, mode, &trap);\n    if due.level == Target::Hs { after.stval = hart.stval; }"),
+    Mutant("interrupts.rs", "let after = deliver_to(due.level, hart, mode, &trap);", "let mut after = deliver_to(due.level, hart, mode, &trap);\n    if due.level == Target::Vs { after.hstatus &= !(1 << 6); }"),
+    Mutant("interrupts.rs", "let after = deliver_to(due.level, hart, mode, &trap);", "let mut after = deliver_to(due.level, hart, mode, &trap);\n    if due.level == Target::Vs { after.mstatus &= !(1 << 1); }"),
+    Mutant("interrupts.rs", "INTERRUPT_BIT | u64::from(number)", "INTERRUPT_BIT | u64::from(if due.level == Target::Hs { number & !8 | 1 } else { number })"),
+    // trap.rs
+    Mutant("trap.rs", "if vectored && interrupt {", "if vectored {"),
+    Mutant("trap.rs", "if vectored && interrupt {", "if interrupt {"),
+    Mutant("trap.rs", "if vectored && interrupt {", "if vectored && interrupt && false {"),
+    Mutant("trap.rs", "base.wrapping_add((cause & !INTERRUPT_BIT).wrapping_mul(4))", "base.saturating_add((cause & !INTERRUPT_BIT).wrapping_mul(4))"),
+    Mutant("trap.rs", "base.wrapping_add((cause & !INTERRUPT_BIT).wrapping_mul(4))", "base | (cause & !INTERRUPT_BIT).wrapping_mul(4)"),
+    Mutant("trap.rs", "base.wrapping_add((cause & !INTERRUPT_BIT).wrapping_mul(4))", "tvec.wrapping_add((cause & !INTERRUPT_BIT).wrapping_mul(4))"),
+    Mutant("trap.rs", "entry_point(hart.vstvec, trap.cause)", "entry_point(hart.vstvec, trap.cause + (trap.cause >> 63))"),
+    Mutant("trap.rs", "if vectored && interrupt {", "if vectored && interrupt && cause & 15 != 11 {"),
+    Mutant("trap.rs", "entry_point(hart.stvec, trap.cause)", "entry_point(hart.stvec, trap.cause & !(1 << 1))"),
+    // registers.rs
+    Mutant("registers.rs", "const VS_INTERRUPTS: u64 = (1 << 2) | (1 << 6) | (1 << 10);", "const VS_INTERRUPTS: u64 = (1 << 2) | (1 << 6) | (1 << 10) | (1 << 12);"),
+    Mutant("registers.rs", "const INTERRUPTS: u64 = SUPERVISOR_INTERRUPTS | VS_INTERRUPTS | MACHINE_INTERRUPTS;", "const INTERRUPTS: u64 = SUPERVISOR_INTERRUPTS | VS_INTERRUPTS | MACHINE_INTERRUPTS | (1 << 12);"),
+    Mutant("registers.rs", "        SUPERVISOR_INTERRUPTS,\n        VS_INTERRUPTS,\n", "        SUPERVISOR_INTERRUPTS | VS_INTERRUPTS,\n        0,\n"),
+    Mutant("registers.rs", "        SUPERVISOR_INTERRUPTS,\n        VS_INTERRUPTS,\n", "        SUPERVISOR_INTERRUPTS | (1 << 10),\n        (1 << 2) | (1 << 6),\n"),
+    Mutant("registers.rs", "        SUPERVISOR_INTERRUPTS,\n        VS_INTERRUPTS,\n", "        SUPERVISOR_INTERRUPTS | (1 << 7),\n        VS_INTERRUPTS,\n"),
+    Mutant("registers.rs", "        SUPERVISOR_INTERRUPTS,\n        VS_INTERRUPTS,\n", "        SUPERVISOR_INTERRUPTS & !(1 << 9),\n        VS_INTERRUPTS,\n"),
+    Mutant("registers.rs", "row(HIDELEG, \"hideleg\", Level::H, VS_INTERRUPTS, 0)", "row(HIDELEG, \"hideleg\", Level::H, VS_INTERRUPTS | SUPERVISOR_INTERRUPTS, 0)"),
+    Mutant("registers.rs", "row(HIDELEG, \"hideleg\", Level::H, VS_INTERRUPTS, 0)", "row(HIDELEG, \"hideleg\", Level::M, VS_INTERRUPTS, 0)"),
+    Mutant("registers.rs", "row(MIP, \"mip\", Level::M, INTERRUPTS, 0)", "row(MIP, \"mip\", Level::M, INTERRUPTS & !MACHINE_INTERRUPTS, 0)"),
+    Mutant("registers.rs", "row(MIE_REGISTER, \"mie\", Level::M, INTERRUPTS, 0)", "row(MIE_REGISTER, \"mie\", Level::M, INTERRUPTS & !VS_INTERRUPTS, 0)"),
+    Mutant("registers.rs", "row(HGEIE, \"hgeie\", Level::H, 0, 0),", "Row { read_only: true, ..row(HGEIE, \"hgeie\", Level::H, 0, 0) },"),
+    Mutant("registers.rs", "    written: SUPERVISOR_SOFTWARE,\n", "    written: SUPERVISOR_SOFTWARE | (1 << 5),\n"),
+    Mutant("registers.rs", "    written: SUPERVISOR_SOFTWARE,\n", "    written: SUPERVISOR_SOFTWARE | (1 << 9),\n"),
+    Mutant("registers.rs", "    written: SUPERVISOR_SOFTWARE,\n", "    written: 0,\n"),
+    Mutant("registers.rs", "    written: SUPERVISOR_SOFTWARE,\n", "    written: SUPERVISOR_SOFTWARE,\n    gate: None,\n"),
+    Mutant("registers.rs", "    shown: SUPERVISOR_INTERRUPTS,\n", "    shown: SUPERVISOR_INTERRUPTS | VS_INTERRUPTS,\n"),
+    Mutant("registers.rs", "    gate: Some(MIDELEG),\n", "    gate: None,\n"),
+    Mutant("registers.rs", "    gate: Some(MIDELEG),\n", "    gate: Some(HIDELEG),\n"),
+    Mutant("registers.rs", "    written: VS_SOFTWARE,\n", "    written: VS_INTERRUPTS,\n"),
+    Mutant("registers.rs", "    written: VS_SOFTWARE,\n", "    written: 0,\n"),
+    Mutant("registers.rs", "    home: MIP,\n    ..HIE_VIEW\n", "    home: MIP,\n    written: (1 << 2) | (1 << 10),\n    ..HIE_VIEW\n"),
+    Mutant("registers.rs", "    home: MIP,\n    ..HIE_VIEW\n", "    home: MIP,\n    gate: Some(HIDELEG),\n    ..HIE_VIEW\n"),
+    Mutant("registers.rs", "    shown: VS_INTERRUPTS,\n    written: VS_INTERRUPTS,\n    gate: None,\n", "    shown: VS_INTERRUPTS,\n    written: VS_INTERRUPTS,\n    gate: Some(HIDELEG),\n"),
+    Mutant("registers.rs", "    gate: Some(HIDELEG),\n    down: 1,\n    ..HIE_VIEW\n", "    gate: None,\n    down: 1,\n    ..HIE_VIEW\n"),
+    Mutant("registers.rs", "    gate: Some(HIDELEG),\n    down: 1,\n    ..HIE_VIEW\n", "    gate: Some(HIDELEG),\n    down: 0,\n    ..HIE_VIEW\n"),
+    Mutant("registers.rs", "    gate: Some(HIDELEG),\n    down: 1,\n    ..HIE_VIEW\n", "    written: VS_SOFTWARE,\n    gate: Some(HIDELEG),\n    down: 1,\n    ..HIE_VIEW\n"),
+    Mutant("registers.rs", "    gate: Some(HIDELEG),\n    down: 1,\n    ..HIP_VIEW\n", "    gate: None,\n    down: 1,\n    ..HIP_VIEW\n"),
+    Mutant("registers.rs", "    gate: Some(HIDELEG),\n    down: 1,\n    ..HIP_VIEW\n", "    gate: Some(HIDELEG),\n    down: 1,\n    ..HVIP_VIEW\n"),
+    Mutant("registers.rs", "    gate: Some(HIDELEG),\n    down: 1,\n    ..HIP_VIEW\n", "    gate: Some(HIDELEG),\n    down: 0,\n    ..HIP_VIEW\n"),
+    Mutant("registers.rs", "(home & self.shown & gate) >> self.down", "(home & self.shown) >> self.down"),
+    Mutant("registers.rs", "let written = self.written & gate;", "let written = self.written;"),
+    Mutant("registers.rs", "((value << self.down) & written)", "((value << self.down) & self.written)"),
+    Mutant("registers.rs", "let written = SUPERVISOR_INTERRUPTS | VS_SOFTWARE;", "let written = SUPERVISOR_INTERRUPTS | VS_SOFTWARE | (1 << 11);"),
+    Mutant("registers.rs", "let written = SUPERVISOR_INTERRUPTS | VS_SOFTWARE;", "let written = SUPERVISOR_INTERRUPTS | VS_SOFTWARE | (1 << 3);"),
+    Mutant("registers.rs", "let written = SUPERVISOR_INTERRUPTS | VS_SOFTWARE;", "let written = SUPERVISOR_INTERRUPTS | VS_INTERRUPTS;"),
+    Mutant("registers.rs", "let written = SUPERVISOR_INTERRUPTS | VS_SOFTWARE;", "let written = SUPERVISOR_INTERRUPTS;"),
+    Mutant("registers.rs", "let written = SUPERVISOR_INTERRUPTS | VS_SOFTWARE;", "let written = SUPERVISOR_SOFTWARE | VS_SOFTWARE;"),
+    Mutant("registers.rs", "((content ^ row.constant) & others)", "(content & !row.constant & others)"),
+    Mutant("registers.rs", "MIP => mip_after_write(old, value),", ""),
+    Mutant("registers.rs", "(home & !written) | ((value", "(home & !self.written) | ((value"),
+    Mutant("registers.rs", "(home & !written) | ((value", "(home & !self.shown) | ((value"),
+    Mutant("registers.rs", "(home & !written) | ((value", "(home & !(self.shown & gate)) | ((value"),
+    Mutant("registers.rs", "(old & !written) | (value & written)", "value & written"),
+    // access.rs
+    Mutant("access.rs", "find(row.number.wrapping_add(0x100))", "find(if row.number == 0x144 { 0x144 } else { row.number.wrapping_add(0x100) })"),
+    Mutant("access.rs", "find(row.number.wrapping_add(0x100))", "find(if row.number == 0x104 { 0x604 } else { row.number.wrapping_add(0x100) })"),
+    Mutant("access.rs", "view.write(home(hart, &view), gate(hart, &view), value)", "view.write(home(hart, &view), u64::MAX, value)"),
+    Mutant("access.rs", "view.read(home(hart, &view), gate(hart, &view))", "view.read(home(hart, &view), u64::MAX)"),
+    // hart.rs
+    Mutant("hart.rs", "mideleg: 0x444,", "mideleg: 0x666,"),
+    Mutant("hart.rs", "Some((row, wrong(row, content)?))", "Some((row, wrong(row, if row.number == registers::HIDELEG { 0 } else { content })?))"),
+    Mutant("hart.rs", "Some((row, wrong(row, content)?))", "Some((row, wrong(row, if row.number == registers::MIDELEG { content | 4 } else { content })?))"),
+];
+
 /// Changes that no answer shows, only a reason.
 const REASONS: &[Mutant] = &[
     // registers.rs, hart.rs
     Mutant("registers.rs", ".min_by_key(", ".max_by_key("),
     Mutant("registers.rs", "Field::reads_2(\"SXL\", 34)", "Field::reads_2(\"UXL\", 34)"),
-    Mutant("registers.rs", "let lowest = (content & others).trailing_zeros();", "let lowest = 63 - (content & others).leading_zeros().min(63);\n    let lowest = if content & others == 0 { 64 } else { lowest };"),
+    Mutant("registers.rs", "let lowest = ((content ^ row.constant) & others).trailing_zeros();", "let found = (content ^ row.constant) & others;\n    let lowest = if found == 0 { 64 } else { 63 - found.leading_zeros() };"),
     Mutant("registers.rs", "Some(Wrong::Field(field, holds))", "Some(Wrong::Field(field, holds & 3))"),
     Mutant("hart.rs", "ROWS.iter().find_map(", "ROWS.iter().rev().find_map("),
     Mutant("hart.rs", "BadHart::Mode(self.v, self.privilege)", "BadHart::Mode(self.privilege, self.v)"),
@@ -265,14 +383,41 @@ const REASONS: &[Mutant] = &[
     Mutant("script.rs", "Answer::Register(accessed) => accessed.outcome.reason,", "Answer::Register(accessed) => accessed.outcome.reason.filter(|_| false),"),
 ];
 
+/// Changes to its reasons, which no answer shows.
+const INTERRUPT_REASONS: &[Mutant] = &[
+    // interrupts.rs
+    Mutant("interrupts.rs", "if hart.mip == 0 {", "if hart.mip & hart.mie == 0 {"),
+    Mutant("interrupts.rs", "if hart.mip == 0 {", "if hart.mip == 0 && hart.mie != 0 {"),
+    Mutant("interrupts.rs", "(None, None) => Why::NoneEnabled,", "(None, None) => Why::NonePending,"),
+    Mutant("interrupts.rs", "let waiting = first(enabled);", "let waiting = { let mut enabled = enabled; enabled.next() };"),
+    Mutant("interrupts.rs", "let waiting = first(enabled);", "let waiting = enabled.last();"),
+    Mutant("interrupts.rs", "let waiting = first(enabled);", "let waiting = enabled.max_by_key(|found| found.level);"),
+    // registers.rs
+    Mutant("registers.rs", "Some(Wrong::ClearBit(lowest))", "Some(Wrong::Bit(lowest))"),
+    // reasons.rs
+    Mutant("reasons.rs", "bit {position} is 0; it may hold 1", "bit {position} is 1; it may hold 1"),
+    Mutant("reasons.rs", "\"interrupt {:x} goes to {due}\", due.number", "\"interrupt {} goes to {due}\", due.number"),
+    Mutant("reasons.rs", "\"interrupt {:x} would go to {waiting}\", waiting.number", "\"interrupt {} would go to {waiting}\", waiting.number"),
+    Mutant("reasons.rs", "\"interrupt {:x} goes to {due}\", due.number", "\"interrupt {:x} goes to {due}\", due.number - u32::from(due.level == Target::Vs)"),
+    Mutant("reasons.rs", "\"{level}, bit {} of", "\"{level}, bit {:x} of"),
+    Mutant("reasons.rs", "Target::Hs => (\"hideleg\", 0),", "Target::Hs => (\"mideleg\", 1),"),
+    Mutant("reasons.rs", "Target::M => (\"mideleg\", 0),", "Target::M => (\"hideleg\", 0),"),
+    Mutant("reasons.rs", "(LevelRule::Never(mode), Target::Vs) =>", "(LevelRule::Never(mode @ Mode::U), Target::Vs) => write!(text, \"{mode} is below {level}\"),\n            (LevelRule::Never(mode), Target::Vs) =>"),
+    Mutant("reasons.rs", "(LevelRule::Never(mode), Target::Vs) =>", "(LevelRule::Never(mode @ Mode::M), Target::Vs) => write!(text, \"{mode} is above {level}\"),\n            (LevelRule::Never(mode), Target::Vs) =>"),
+    Mutant("reasons.rs", "Target::Vs => \"vsstatus.SIE\",", "Target::Vs => \"mstatus.SIE\","),
+    Mutant("reasons.rs", "Target::M => \"mstatus.MIE\",", "Target::M => \"mstatus.SIE\","),
+];
+
 fn source() -> PathBuf {
     Path::new(env!("CARGO_MANIFEST_DIR")).join("../second/src")
 }
 
 #[test]
 fn every_mutant_still_fits_the_source() {
-    for mutant in MUTANTS.iter().chain(REASONS) {
-        mutant.changed_text(&source());
+    for mutants in [MUTANTS, INTERRUPTS, REASONS, INTERRUPT_REASONS] {
+        for mutant in mutants {
+            mutant.changed_text(&source());
+        }
     }
 }
 
@@ -353,6 +498,18 @@ fn every_mutant_is_caught() {
 
 #[test]
 #[ignore = "takes minutes"]
+fn every_mutant_of_interrupts_is_caught() {
+    check(INTERRUPTS, |_| true);
+}
+
+#[test]
+#[ignore = "takes minutes"]
 fn every_mutant_of_a_reason_is_caught() {
     check(REASONS, |_| false);
+}
+
+#[test]
+#[ignore = "takes minutes"]
+fn every_mutant_of_an_interrupts_reason_is_caught() {
+    check(INTERRUPT_REASONS, |_| false);
 }

@@ -3,8 +3,10 @@
 use crate::happened::{refusal, Explanation, Happened};
 use crate::names::{self, place, Mode};
 use crate::reason;
-use crate::registers::{self, HSTATUS, MSTATUS, SSTATUS, VSSTATUS};
+use crate::registers::{self, HSTATUS, MSTATUS, VSSTATUS};
 use crate::script::{Action, Event, Instruction};
+use crate::views::{self, held};
+use crate::writes;
 use balcumentri::{Accessed, Hart, Outcome};
 
 /// A register access: what it came to, and what it read or wrote.
@@ -28,7 +30,7 @@ pub fn access(
     let mut explanation = event(happened, &what, accessed.outcome);
     if accessed.outcome == Outcome::Done {
         if action.writes() {
-            let lines = write_lines(happened.after, reached, action, accessed.value);
+            let lines = write_lines(happened, reached, action, accessed.value);
             explanation.lines.extend(lines);
         } else {
             if !matches!(action, Action::Read) {
@@ -36,6 +38,8 @@ pub fn access(
                 explanation.lines.push(line.to_owned());
             }
             explanation.lines.push(content(reached, accessed.value));
+            let hidden = views::not_shown(happened.before, reached);
+            explanation.lines.extend(hidden);
         }
     }
     explanation
@@ -61,11 +65,12 @@ fn content(number: u64, word: u64) -> String {
 }
 
 /// What a write changed, and what of it was not stored.
-fn write_lines(after: &Hart, number: u64, action: Action, old: u64) -> Vec<String> {
+fn write_lines(happened: &Happened<'_>, number: u64, action: Action, old: u64) -> Vec<String> {
+    let (before, after) = (happened.before, happened.after);
     let asked = action.asked(old);
     let new = held(after, number);
     let register = registers::title(number);
-    if let Some(mode) = registers::ignored(number, asked) {
+    if let Some(mode) = writes::ignored(number, asked) {
         return vec![format!(
             "the write is ignored: MODE {mode:x} is neither 0 nor 8; {register} stays {old:x}"
         )];
@@ -76,21 +81,17 @@ fn write_lines(after: &Hart, number: u64, action: Action, old: u64) -> Vec<Strin
         words => format!("{register} {old:x} becomes {new:x}: {words}"),
     };
     let mut lines = vec![change];
-    lines.extend(registers::not_stored(number, asked, new));
+    lines.extend(views::kept(before, after, number));
+    lines.extend(writes::not_stored(number, asked, new));
     lines
-}
-
-/// What a register shows: sstatus is a view of mstatus, hgeip a constant.
-fn held(hart: &Hart, number: u64) -> u64 {
-    let home = if number == SSTATUS { MSTATUS } else { number };
-    registers::view(number, hart.register(home).unwrap_or(0))
 }
 
 /// An event: what it came to, the mode and pc after it, and what it wrote.
 pub fn event(happened: &Happened<'_>, what: &str, outcome: Outcome) -> Explanation {
     let (from, to) = (place(happened.before), place(happened.after));
     match outcome {
-        Outcome::Done => {
+        // no event that is explained here takes an interrupt
+        Outcome::Done | Outcome::Interrupted(_) => {
             let mut lines = vec![format!("{what} in {from}: done, on in {to}")];
             if let Event::Perform(instruction) = happened.event {
                 lines.extend(return_origin(*instruction, happened));
@@ -132,8 +133,8 @@ fn delegation(happened: &Happened<'_>) -> &'static str {
     }
 }
 
-/// What a trap wrote, by where it went.
-fn trap_writes(happened: &Happened<'_>) -> String {
+/// What a trap or an interrupt wrote, by where it went.
+pub fn trap_writes(happened: &Happened<'_>) -> String {
     let from_guest = happened.before.v() == 1;
     match Mode::of_hart(happened.after) {
         Some(Mode::M) => wrote(

@@ -2,6 +2,7 @@
 
 use crate::events;
 use crate::happened::{refusal, Came, Explanation, Happened};
+use crate::interrupts;
 use crate::names;
 use crate::paint::Paint;
 use crate::script::Event;
@@ -29,7 +30,7 @@ pub struct Explainer {
 }
 
 impl Explainer {
-    /// The line, what it came to, and why that was a refusal, a fault or an instruction's trap.
+    /// The line, what it came to, and why.
     pub fn explain(&self, out: &mut impl Write, happened: &Happened<'_>) -> io::Result<()> {
         writeln!(out, "# line {}: {}", happened.line, happened.text)?;
         let explanation = match (happened.event, happened.came) {
@@ -42,6 +43,7 @@ impl Explainer {
             (Event::Perform(instruction), Came::Stepped(outcome)) => {
                 events::event(happened, instruction.name(), *outcome)
             }
+            (Event::Interrupt, Came::Stepped(outcome)) => interrupts::event(happened, *outcome),
             (_, Came::Stepped(outcome)) => events::event(happened, "trap request", *outcome),
             _ => Explanation {
                 lines: events::hart(happened.after),
@@ -52,6 +54,7 @@ impl Explainer {
             writeln!(out, "# {line}")?;
         }
         match explanation.why {
+            Some(why) if happened.is_well() => writeln!(out, "# why: {why}"),
             Some(why) => writeln!(out, "# {}", self.paint.bad(&format!("why: {why}"))),
             None => Ok(()),
         }

@@ -1,4 +1,4 @@
-//! The fields of registers: what they are called, where they are, and what they may hold.
+//! The fields of registers: what they are called, where they are, what they may hold, and what writes them.
 
 /// A field of a register.
 #[derive(Clone, Copy)]
@@ -8,6 +8,18 @@ pub struct Field {
     pub low: u32,
     /// What it may hold; nothing here: anything.
     may: &'static [u64],
+    pub writer: Writer,
+}
+
+/// What writes a field.
+#[derive(Clone, Copy, PartialEq, Eq)]
+pub enum Writer {
+    /// A write to its register.
+    Own,
+    /// A write to another register alone, by name and number.
+    Other(&'static str),
+    /// Nothing: it comes in with the hart.
+    Nothing,
 }
 
 impl Field {
@@ -21,6 +33,14 @@ impl Field {
 
     pub fn is_bit(&self) -> bool {
         self.high == self.low
+    }
+
+    /// What it is called where it holds what no write stores: a bit goes by its number.
+    pub fn label(&self) -> String {
+        if self.is_bit() {
+            return format!("bit {}", self.low);
+        }
+        self.name.to_owned()
     }
 
     /// Whether it may hold a value.
@@ -54,6 +74,20 @@ const fn field(name: &'static str, high: u32, low: u32, may: &'static [u64]) -> 
         high,
         low,
         may,
+        writer: Writer::Own,
+    }
+}
+
+/// A bit that is always 1.
+const fn one(name: &'static str, at: u32) -> Field {
+    field(name, at, at, &[1])
+}
+
+/// A bit that its register's writes leave as it is.
+const fn kept(name: &'static str, at: u32, writer: Writer) -> Field {
+    Field {
+        writer,
+        ..bit(name, at)
     }
 }
 
@@ -104,3 +138,57 @@ pub const HGATP: &[Field] = &[
     field("PPN", 43, 0, &[]),
 ];
 pub const TVEC: &[Field] = &[field("BASE", 63, 2, &[]), bit("MODE", 0)];
+
+const BY_MIP: Writer = Writer::Other("mip (344)");
+const BY_HVIP: Writer = Writer::Other("hvip (645)");
+
+/// All interrupts: mie.
+pub const INTERRUPTS: &[Field] = &[
+    bit("SSI", 1),
+    bit("VSSI", 2),
+    bit("MSI", 3),
+    bit("STI", 5),
+    bit("VSTI", 6),
+    bit("MTI", 7),
+    bit("SEI", 9),
+    bit("VSEI", 10),
+    bit("MEI", 11),
+];
+pub const MIP: &[Field] = &[
+    bit("SSI", 1),
+    bit("VSSI", 2),
+    kept("MSI", 3, Writer::Nothing),
+    bit("STI", 5),
+    kept("VSTI", 6, BY_HVIP),
+    kept("MTI", 7, Writer::Nothing),
+    bit("SEI", 9),
+    kept("VSEI", 10, BY_HVIP),
+    kept("MEI", 11, Writer::Nothing),
+];
+pub const MIDELEG: &[Field] = &[
+    bit("SSI", 1),
+    one("VSSI", 2),
+    bit("STI", 5),
+    one("VSTI", 6),
+    bit("SEI", 9),
+    one("VSEI", 10),
+];
+/// Those of S, and of VS where its own registers show them: sie, vsie.
+pub const S_INTERRUPTS: &[Field] = &[bit("SSI", 1), bit("STI", 5), bit("SEI", 9)];
+pub const SIP: &[Field] = &[
+    bit("SSI", 1),
+    kept("STI", 5, BY_MIP),
+    kept("SEI", 9, BY_MIP),
+];
+pub const VSIP: &[Field] = &[
+    bit("SSI", 1),
+    kept("STI", 5, BY_HVIP),
+    kept("SEI", 9, BY_HVIP),
+];
+/// Those of VS: hie, hvip, hideleg.
+pub const VS_INTERRUPTS: &[Field] = &[bit("VSSI", 2), bit("VSTI", 6), bit("VSEI", 10)];
+pub const HIP: &[Field] = &[
+    bit("VSSI", 2),
+    kept("VSTI", 6, BY_HVIP),
+    kept("VSEI", 10, BY_HVIP),
+];

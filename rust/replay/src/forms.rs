@@ -23,7 +23,7 @@ const fn form(word: &'static str, takes: &'static [&'static str]) -> Form {
 /// The most numbers that a line takes.
 pub const MOST: usize = 5;
 
-pub const FORMS: [Form; 22] = [
+pub const FORMS: [Form; 23] = [
     form("image", &["BASE", "LENGTH"]),
     form("file", &["BASE", "PATH"]),
     form("put", &["ADDRESS", "VALUE"]),
@@ -45,6 +45,7 @@ pub const FORMS: [Form; 22] = [
     form("sfence.vma", &[]),
     form("hfence.vvma", &[]),
     form("hfence.gvma", &[]),
+    form("interrupt", &[]),
     form("show", &[]),
 ];
 

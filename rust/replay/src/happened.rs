@@ -30,9 +30,17 @@ impl Happened<'_> {
     pub fn refused(&self, number: u64) -> Option<String> {
         reason::refused(number, self.before, self.image, self.event)
     }
+
+    /// Whether it was done or took an interrupt.
+    pub fn is_well(&self) -> bool {
+        matches!(
+            self.came,
+            Came::Stepped(Outcome::Done | Outcome::Interrupted(_))
+        )
+    }
 }
 
-/// What happened, line by line, and why that was a refusal, a fault or an instruction's trap.
+/// What happened, line by line, and why: of a refusal, a fault, an instruction's trap and the event that takes interrupts.
 pub struct Explanation {
     pub lines: Vec<String>,
     pub why: Option<String>,

@@ -7,8 +7,10 @@ mod fields;
 mod forms;
 mod happened;
 mod input;
+mod interrupts;
 mod names;
 mod paint;
+mod pending;
 mod reason;
 mod registers;
 mod run;
@@ -16,7 +18,9 @@ mod scene;
 mod script;
 mod suggest;
 mod tree;
+mod views;
 mod walk;
+mod writes;
 
 use descriptor::Descriptor;
 use explain::{Explainer, Style};
@@ -47,7 +51,8 @@ Events, each answered on standard output:
     read N      write N VALUE      set N VALUE WRITES      clear N VALUE WRITES
     trap CAUSE VALUE SECOND WORD FLAG
     ecall  ebreak  mret  sret  wfi  sfence.vma  hfence.vvma  hfence.gvma
-    show
+    interrupt                       takes the interrupt that is due, if one is
+    show                            the hart, as a script
 
 --explain adds, after each answer, lines that begin with `# ` and say in words what happened and why;
 --explain=tree draws each translation's walk as a tree.

@@ -1,4 +1,4 @@
-//! The modes, and the names of causes and refusals.
+//! The modes, and the names of causes, interrupts and refusals.
 
 use balcumentri::Hart;
 use std::fmt;
@@ -91,6 +91,48 @@ pub fn cause(number: u64) -> Option<&'static str> {
 /// The cause with a number, by name and number.
 pub fn titled_cause(number: u64) -> String {
     format!("{} ({number:x})", cause(number).unwrap_or("no cause"))
+}
+
+/// Whose and of which kind the interrupt with a number is.
+fn interrupt(number: u64) -> Option<&'static str> {
+    Some(match number {
+        1 => "supervisor software",
+        2 => "VS software",
+        3 => "machine software",
+        5 => "supervisor timer",
+        6 => "VS timer",
+        7 => "machine timer",
+        9 => "supervisor external",
+        10 => "VS external",
+        11 => "machine external",
+        _ => return None,
+    })
+}
+
+/// The interrupt with a number, by name and number.
+pub fn titled_interrupt(number: u64) -> String {
+    let name = interrupt(number).unwrap_or("no");
+    format!("{name} interrupt ({number:x})")
+}
+
+/// Interrupts by name and number, without the word itself.
+pub fn interrupts(numbers: &[u64]) -> String {
+    let titles: Vec<String> = numbers
+        .iter()
+        .map(|number| titled_interrupt(*number).replace(" interrupt", ""))
+        .collect();
+    titles.join(", ")
+}
+
+/// The bit of a cause register that says that the rest is an interrupt's number.
+pub const INTERRUPT: u64 = 1 << 63;
+
+/// What a cause register holds, by name.
+pub fn cause_held(word: u64) -> Option<String> {
+    if word & INTERRUPT == 0 {
+        return cause(word).map(str::to_owned);
+    }
+    interrupt(word & !INTERRUPT).map(|name| format!("{name} interrupt"))
 }
 
 /// What a refusal's number says.

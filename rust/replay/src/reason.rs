@@ -1,7 +1,8 @@
-//! Why the model refused an event, or why an instruction trapped with cause 2 or 22: the first reason in the order of docs/REPLAY.md.
-//! It explains answers and decides none.
+//! Why the model refused an event, why an instruction trapped with cause 2 or 22, and why an interrupt was taken or none: the first
+//! reason in the order of docs/REPLAY.md. It explains answers and decides none.
 
 use crate::names::{self, Mode};
+use crate::pending::{self, Way};
 use crate::registers::{self, get, stray, HGATP, HSTATUS, MSTATUS, SATP};
 use crate::script::{Event, Instruction};
 use balcumentri::{Access, Fault, Hart, Image, Kind};
@@ -202,6 +203,28 @@ fn instruction_trapped(hart: &Hart, instruction: Instruction) -> Option<String> 
         (SfenceVma, Mode::Vs) => set(hart, HSTATUS, "VTVM"),
         _ => None,
     }
+}
+
+/// Why an interrupt was taken.
+pub fn interrupted(hart: &Hart, number: u64) -> Option<String> {
+    let way = Way::new(hart, number)?;
+    let passes = way.gate.as_ref().ok()?;
+    Some(format!("interrupt {number:x} goes to {way}; {passes}"))
+}
+
+/// Why no interrupt was taken.
+pub fn not_interrupted(hart: &Hart) -> Option<String> {
+    let (enabled, others) = pending::numbers(hart);
+    if enabled.is_empty() && others.is_empty() {
+        return Some("no interrupt is pending".to_owned());
+    }
+    if enabled.is_empty() {
+        return Some("no pending interrupt is enabled".to_owned());
+    }
+    let asking = pending::asking(hart);
+    let way = asking.first()?;
+    let (number, waits) = (way.number, way.gate.as_ref().err()?);
+    Some(format!("interrupt {number:x} would go to {way}; {waits}"))
 }
 
 /// Whether a control bit is set.

@@ -1,4 +1,4 @@
-//! The twenty-nine registers: their names and bits, and their content in words.
+//! The forty-one registers: their names and bits, and their content in words.
 
 use crate::fields::{self, Field};
 use crate::names;
@@ -7,9 +7,11 @@ use crate::names;
 enum Shape {
     /// Named fields.
     Fields(&'static [Field]),
-    /// A bit for each cause.
+    /// A bit for each cause that is handed down.
     Causes,
-    /// A cause.
+    /// A bit for each interrupt that is handed down.
+    Interrupts(&'static [Field]),
+    /// A cause, or an interrupt's number.
     Cause,
     /// One number.
     Number,
@@ -25,17 +27,22 @@ struct Register {
 }
 
 const fn with_fields(number: u64, name: &'static str, fields: &'static [Field]) -> Register {
-    let (mut used, mut place) = (0, 0);
+    with_bits(number, name, Shape::Fields(fields), mask(fields))
+}
+
+/// Hands interrupts down.
+const fn delegates(number: u64, name: &'static str, fields: &'static [Field]) -> Register {
+    with_bits(number, name, Shape::Interrupts(fields), mask(fields))
+}
+
+/// The bits of fields.
+const fn mask(fields: &[Field]) -> u64 {
+    let (mut mask, mut place) = (0, 0);
     while place < fields.len() {
-        used |= fields[place].mask();
+        mask |= fields[place].mask();
         place += 1;
     }
-    Register {
-        number,
-        name,
-        shape: Shape::Fields(fields),
-        used,
-    }
+    mask
 }
 
 const fn with_bits(number: u64, name: &'static str, shape: Shape, used: u64) -> Register {
@@ -61,41 +68,70 @@ const fn epc(number: u64, name: &'static str) -> Register {
 }
 
 pub const SSTATUS: u64 = 0x100;
+pub const SIE: u64 = 0x104;
+pub const STVEC: u64 = 0x105;
+pub const SCAUSE: u64 = 0x142;
+pub const SIP: u64 = 0x144;
 pub const SATP: u64 = 0x180;
 pub const VSSTATUS: u64 = 0x200;
+pub const VSIE: u64 = 0x204;
+pub const VSTVEC: u64 = 0x205;
+pub const VSCAUSE: u64 = 0x242;
+pub const VSIP: u64 = 0x244;
 pub const VSATP: u64 = 0x280;
 pub const MSTATUS: u64 = 0x300;
+pub const MIDELEG: u64 = 0x303;
+pub const MIE: u64 = 0x304;
+pub const MTVEC: u64 = 0x305;
+pub const MCAUSE: u64 = 0x342;
+pub const MIP: u64 = 0x344;
 pub const HSTATUS: u64 = 0x600;
+pub const HIDELEG: u64 = 0x603;
+pub const HIE: u64 = 0x604;
+pub const HIP: u64 = 0x644;
+pub const HVIP: u64 = 0x645;
 pub const HGATP: u64 = 0x680;
 
 /// In rising order of number.
-const REGISTERS: [Register; 29] = [
+const REGISTERS: [Register; 41] = [
     with_fields(SSTATUS, "sstatus", fields::SSTATUS),
-    with_fields(0x105, "stvec", fields::TVEC),
+    with_fields(SIE, "sie", fields::S_INTERRUPTS),
+    with_fields(STVEC, "stvec", fields::TVEC),
     whole(0x140, "sscratch"),
     epc(0x141, "sepc"),
-    cause(0x142, "scause"),
+    cause(SCAUSE, "scause"),
     whole(0x143, "stval"),
+    with_fields(SIP, "sip", fields::SIP),
     with_fields(SATP, "satp", fields::SATP),
     with_fields(VSSTATUS, "vsstatus", fields::SSTATUS),
-    with_fields(0x205, "vstvec", fields::TVEC),
+    with_fields(VSIE, "vsie", fields::S_INTERRUPTS),
+    with_fields(VSTVEC, "vstvec", fields::TVEC),
     whole(0x240, "vsscratch"),
     epc(0x241, "vsepc"),
-    cause(0x242, "vscause"),
+    cause(VSCAUSE, "vscause"),
     whole(0x243, "vstval"),
+    with_fields(VSIP, "vsip", fields::VSIP),
     with_fields(VSATP, "vsatp", fields::SATP),
     with_fields(MSTATUS, "mstatus", fields::MSTATUS),
     with_bits(0x302, "medeleg", Shape::Causes, 0xf0_b7ff),
-    with_fields(0x305, "mtvec", fields::TVEC),
+    delegates(MIDELEG, "mideleg", fields::MIDELEG),
+    with_fields(MIE, "mie", fields::INTERRUPTS),
+    with_fields(MTVEC, "mtvec", fields::TVEC),
     whole(0x340, "mscratch"),
     epc(0x341, "mepc"),
-    cause(0x342, "mcause"),
+    cause(MCAUSE, "mcause"),
     whole(0x343, "mtval"),
+    with_fields(MIP, "mip", fields::MIP),
     whole(0x34a, "mtinst"),
     whole(0x34b, "mtval2"),
     with_fields(HSTATUS, "hstatus", fields::HSTATUS),
     with_bits(0x602, "hedeleg", Shape::Causes, 0xb1ff),
+    delegates(HIDELEG, "hideleg", fields::VS_INTERRUPTS),
+    with_fields(HIE, "hie", fields::VS_INTERRUPTS),
+    with_bits(0x607, "hgeie", Shape::Number, 0),
     whole(0x643, "htval"),
+    with_fields(HIP, "hip", fields::HIP),
+    with_fields(HVIP, "hvip", fields::VS_INTERRUPTS),
     whole(0x64a, "htinst"),
     with_bits(HGATP, "hgatp", Shape::Fields(fields::HGATP), !(3 << 58 | 3)),
     with_bits(0xe12, "hgeip", Shape::Number, 0),
@@ -126,9 +162,9 @@ pub fn title(number: u64) -> String {
 }
 
 /// The named fields of a register; none where it is one number.
-fn fields(number: u64) -> &'static [Field] {
+pub fn fields(number: u64) -> &'static [Field] {
     match find(number).map(|register| &register.shape) {
-        Some(Shape::Fields(fields)) => fields,
+        Some(Shape::Fields(fields) | Shape::Interrupts(fields)) => fields,
         _ => &[],
     }
 }
@@ -143,8 +179,8 @@ pub fn get(number: u64, name: &str, word: u64) -> u64 {
     found.map_or(0, |field| field.of(word))
 }
 
-/// What a register's view shows of the word that is kept for it.
-pub fn view(number: u64, word: u64) -> u64 {
+/// What a register can show of a word.
+pub fn visible(number: u64, word: u64) -> u64 {
     word & used(number)
 }
 
@@ -157,7 +193,7 @@ pub fn stray(number: u64, word: u64) -> Option<(String, u64, String)> {
     let bits = word & !used(number);
     match wrong {
         Some(field) if bits == 0 || field.low < bits.trailing_zeros() => {
-            Some((field.name.to_owned(), field.of(word), field.choices()))
+            Some((field.label(), field.of(word), field.choices()))
         }
         _ if bits == 0 => None,
         _ => Some((format!("bit {}", bits.trailing_zeros()), 1, "0".to_owned())),
@@ -168,8 +204,11 @@ pub fn stray(number: u64, word: u64) -> Option<(String, u64, String)> {
 pub fn decoded(number: u64, word: u64) -> String {
     let mut parts = match find(number).map(|register| &register.shape) {
         Some(Shape::Fields(fields)) => parts(number, fields, word),
-        Some(Shape::Causes) => vec![delegated(view(number, word))],
-        Some(Shape::Cause) => names::cause(word).map(str::to_owned).into_iter().collect(),
+        Some(Shape::Causes) => vec![handed("cause", &causes(visible(number, word)))],
+        Some(Shape::Interrupts(fields)) => {
+            vec![handed("interrupt", &parts(number, fields, word))]
+        }
+        Some(Shape::Cause) => names::cause_held(word).into_iter().collect(),
         Some(Shape::Number) | None => Vec::new(),
     };
     if let Some((field, value, may)) = stray(number, word) {
@@ -178,16 +217,20 @@ pub fn decoded(number: u64, word: u64) -> String {
     parts.join(", ")
 }
 
-/// The causes that a delegation register hands down.
-fn delegated(word: u64) -> String {
-    let causes: Vec<String> = (0..64)
+/// The causes whose bits are set.
+fn causes(word: u64) -> Vec<String> {
+    (0..64)
         .filter(|cause| word >> cause & 1 == 1)
         .map(names::titled_cause)
-        .collect();
-    if causes.is_empty() {
-        return "hands no cause down".to_owned();
+        .collect()
+}
+
+/// What a delegation register hands down.
+fn handed(kind: &str, names: &[String]) -> String {
+    if names.is_empty() {
+        return format!("hands no {kind} down");
     }
-    format!("hands down {}", causes.join(", "))
+    format!("hands down {}", names.join(", "))
 }
 
 /// The bits that are set by name, and the wider fields with what they hold.
@@ -207,10 +250,12 @@ fn parts(number: u64, fields: &[Field], word: u64) -> Vec<String> {
 }
 
 /// A field's value, with what it stands for.
-fn meaning(number: u64, field: &Field, value: u64) -> String {
+pub fn meaning(number: u64, field: &Field, value: u64) -> String {
     let name = match (field.name, value) {
         ("MODE", 0) if field.is_bit() => "direct",
-        ("MODE", 1) if field.is_bit() => "vectored; an exception goes to BASE",
+        ("MODE", 1) if field.is_bit() => {
+            "vectored; an interrupt goes to BASE plus 4 times its cause, an exception to BASE"
+        }
         ("MODE", 0) => "Bare",
         ("MODE", 8) if number == HGATP => "Sv39x4",
         ("MODE", 8) => "Sv39",
@@ -243,46 +288,12 @@ pub fn changes(number: u64, old: u64, new: u64) -> String {
             }
         }
         Some(Shape::Cause) if old != new => {
-            let name = |cause| names::cause(cause).unwrap_or("no cause");
+            let name = |word| names::cause_held(word).unwrap_or("no cause".to_owned());
             changes.push(format!("{} to {}", name(old), name(new)));
         }
         _ => {}
     }
     changes.join(", ")
-}
-
-/// The MODE for which a write to satp or vsatp does nothing.
-pub fn ignored(number: u64, asked: u64) -> Option<u64> {
-    let mode = get(number, "MODE", asked);
-    (matches!(number, SATP | VSATP) && !matches!(mode, 0 | 8)).then_some(mode)
-}
-
-/// What of a write was not stored: a sentence for each field that kept what it held, and one for bits that are always 0. To write 0
-/// to a field that never changes is common, and asks for nothing. `asked` is the word that the write asked for, `new` what is stored.
-pub fn not_stored(number: u64, asked: u64, new: u64) -> Vec<String> {
-    let mut sentences = Vec::new();
-    for field in fields(number) {
-        let (value, name) = (field.of(asked), field.name);
-        let (choices, kept) = (field.choices(), meaning(number, field, field.of(new)));
-        if field.takes(value) {
-            continue;
-        }
-        if !field.is_constant() {
-            sentences.push(format!(
-                "{name} {value:x} is not stored, it may hold {choices}: it keeps {kept}"
-            ));
-        } else if value != 0 {
-            sentences.push(format!(
-                "{name} {value:x} is not stored: it is always {choices}"
-            ));
-        }
-    }
-    match bits(asked & !used(number)) {
-        (0, _) => {}
-        (1, bit) => sentences.push(format!("bit {bit} is not stored: it is always 0")),
-        (_, bits) => sentences.push(format!("bits {bits} are not stored: they are always 0")),
-    }
-    sentences
 }
 
 /// How many bits a mask has, and which, as runs from the highest down: `63:54, 4`.

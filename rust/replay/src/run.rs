@@ -94,6 +94,7 @@ fn perform(event: &Event, scene: &mut Scene) -> Came {
             Instruction::HfenceVvma => hart.hfence_vvma(),
             Instruction::HfenceGvma => hart.hfence_gvma(),
         }),
+        Event::Interrupt => Came::Stepped(hart.interrupt()),
         Event::Show => Came::Shown,
     }
 }
@@ -104,11 +105,11 @@ fn write_answer(out: &mut impl Write, came: &Came, hart: &Hart) -> io::Result<()
         Came::Translated(translation) => write_translation(out, translation),
         Came::Accessed(accessed) => match accessed.outcome {
             Outcome::Refused(number) => writeln!(out, "refused {number:x}"),
-            Outcome::Done | Outcome::Trapped(_) => writeln!(out, "value {:x}", accessed.value),
+            _ => writeln!(out, "value {:x}", accessed.value),
         },
         Came::Stepped(outcome) => match outcome {
             Outcome::Refused(number) => writeln!(out, "refused {number:x}"),
-            Outcome::Done | Outcome::Trapped(_) => writeln!(out, "ok"),
+            _ => writeln!(out, "ok"),
         },
         Came::Shown => write_hart(out, hart),
     }

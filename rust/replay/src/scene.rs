@@ -2,6 +2,7 @@
 
 use crate::registers;
 use crate::suggest::shown;
+use crate::views;
 use balcumentri::{Hart, Image};
 use std::fs::File;
 use std::io::{self, Read};
@@ -106,13 +107,15 @@ impl Scene {
         if self.hart.put_register(number, value) {
             return Ok(());
         }
-        Err(match registers::name(number) {
-            Some("sstatus") => {
-                "sstatus (100) is not stored: it is a view of mstatus (300)".to_owned()
-            }
-            Some(name) => format!("{name} ({number:x}) is not stored: it is a constant"),
-            None => format!("the model has no register {number:x}"),
-        })
+        if registers::name(number).is_none() {
+            return Err(format!("the model has no register {number:x}"));
+        }
+        let what = match views::home(number) {
+            Some(home) => format!("a view of {}", registers::title(home)),
+            None => "a constant".to_owned(),
+        };
+        let register = registers::title(number);
+        Err(format!("{register} is not stored: it is {what}"))
     }
 }
 

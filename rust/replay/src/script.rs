@@ -97,6 +97,8 @@ pub enum Event {
     Register(u64, Action),
     Trap(Fault),
     Perform(Instruction),
+    /// The interrupt that is due is taken.
+    Interrupt,
     Show,
 }
 
@@ -203,6 +205,7 @@ fn command(word: &str, [a, b, c, d, e]: [u64; MOST]) -> Command<'static> {
         "sfence.vma" => Event::Perform(Instruction::SfenceVma),
         "hfence.vvma" => Event::Perform(Instruction::HfenceVvma),
         "hfence.gvma" => Event::Perform(Instruction::HfenceGvma),
+        "interrupt" => Event::Interrupt,
         _ => Event::Show,
     })
 }

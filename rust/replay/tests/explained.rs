@@ -199,12 +199,342 @@ fn a_hart_that_is_refused_shows_each_wrong_register() {
     let line = |name: &str| said.iter().find(|line| line.starts_with(name)).cloned();
     assert_eq!(
         line("stvec").as_deref(),
-        Some("stvec (105) 3: BASE 0, MODE 1 (vectored; an exception goes to BASE), but bit 1 is 1, and may hold 0")
+        Some("stvec (105) 3: BASE 0, MODE 1 (vectored; an interrupt goes to BASE plus 4 times its cause, an exception to BASE), but bit 1 is 1, and may hold 0")
     );
     let medeleg = line("medeleg").unwrap_or_default();
     assert!(
         medeleg.ends_with("store page fault (f), but bit 11 is 1, and may hold 0"),
         "{medeleg}"
+    );
+}
+
+#[test]
+fn interrupt_registers_are_shown_bit_by_bit() {
+    let said = lines("reg 303 646\nreg 304 eee\nreg 344 842\nreg 603 40\nshow\n");
+    for line in [
+        "mideleg (303) 646: hands down SSI, VSSI, VSTI, SEI, VSEI",
+        "mie (304) eee: SSI, VSSI, MSI, STI, VSTI, MTI, SEI, VSEI, MEI",
+        "mip (344) 842: SSI, VSTI, MEI",
+        "hideleg (603) 40: hands down VSTI",
+    ] {
+        assert!(said.iter().any(|said| said == line), "{line}: {said:?}");
+    }
+    let said = lines("reg 303 40\nreg 344 1\nreg 603 2\nshow\n");
+    for line in [
+        "M at 0; the model refuses it as 2: mideleg (303): bit 2 is 0; it may hold 1",
+        "mideleg (303) 40: hands down VSTI, but bit 2 is 0, and may hold 1",
+        "mie (304) 0",
+        "mip (344) 1: but bit 0 is 1, and may hold 0",
+        "hideleg (603) 2: hands no interrupt down, but bit 1 is 1, and may hold 0",
+    ] {
+        assert!(said.iter().any(|said| said == line), "{line}: {said:?}");
+    }
+}
+
+#[test]
+fn harts_whose_interrupt_registers_no_write_stores() {
+    for (register, content, field) in [
+        ("303", "40", "mideleg (303): bit 2 is 0; it may hold 1"),
+        ("303", "c4", "mideleg (303): bit 7 is 1; it may hold 0"),
+        (
+            "303",
+            "8000000000000444",
+            "mideleg (303): bit 63 is 1; it may hold 0",
+        ),
+        ("304", "10", "mie (304): bit 4 is 1; it may hold 0"),
+        ("344", "1888", "mip (344): bit 12 is 1; it may hold 0"),
+        ("603", "222", "hideleg (603): bit 1 is 1; it may hold 0"),
+    ] {
+        let said = lines(&format!("reg {register} {content}\ninterrupt\n"));
+        assert_eq!(
+            said,
+            [
+                "interrupt in M at 0: refused as 2: no hart can be in this state".to_owned(),
+                format!("why: {field}"),
+            ]
+        );
+    }
+}
+
+#[test]
+fn bits_that_a_write_to_an_interrupt_register_leaves() {
+    assert_eq!(
+        lines(
+            "write 303 ff\nreg 344 880\nwrite 344 77f\nreg 344 800\nclear 344 802 1\nwrite 607 2\n"
+        ),
+        [
+            "write to mideleg (303) in M at 0: done, on in M at 4",
+            "mideleg (303) 444 becomes 466: SSI 0 to 1, STI 0 to 1",
+            "VSEI 0 is not stored: it is always 1",
+            "bits 7, 4:3, 0 are not stored: they are always 0",
+            "write to mip (344) in M at 4: done, on in M at 8",
+            "mip (344) 880 becomes aa6: SSI 0 to 1, VSSI 0 to 1, STI 0 to 1, SEI 0 to 1",
+            "MSI 1, MTI 0, MEI 0 are not stored: they come in with the hart",
+            "VSTI 1, VSEI 1 are not stored: hvip (645) alone writes them",
+            "bits 8, 4, 0 are not stored: they are always 0",
+            "clear of bits in mip (344) in M at 8: done, on in M at c",
+            "mip (344) stays 800",
+            "MEI 0 is not stored: it comes in with the hart",
+            "write to hgeie (607) in M at c: done, on in M at 10",
+            "hgeie (607) stays 0",
+            "bit 1 is not stored: it is always 0",
+        ]
+    );
+}
+
+#[test]
+fn views_say_where_their_bits_are_kept_and_what_their_gate_shuts_off() {
+    let script = "reg 303 466\nreg 344 600\nwrite 144 222\nwrite 104 222\nread 144\n";
+    assert_eq!(
+        lines(script),
+        [
+            "write to sip (144) in M at 0: done, on in M at 4",
+            "sip (144) 0 becomes 2: SSI 0 to 1",
+            "it is kept in mip (344): 600 becomes 602",
+            "STI 1, SEI 1 are not stored: mip (344) alone writes them",
+            "write to sie (104) in M at 4: done, on in M at 8",
+            "sie (104) 0 becomes 22: SSI 0 to 1, STI 0 to 1",
+            "it is kept in mie (304): 0 becomes 22",
+            "SEI 1 is not stored: bit 9 of mideleg (303) is 0",
+            "read of sip (144) in M at 8: done, on in M at c",
+            "sip (144) 2: SSI",
+            "SEI is not shown: bit 9 of mideleg (303) is 0",
+        ]
+    );
+    let script = "hart 1 1 0\nreg 603 40\nreg 304 404\nwrite 104 222\nread 104\nset 144 22 1\n";
+    assert_eq!(
+        lines(script),
+        [
+            "write to sie (104), which is vsie (204) here, in VS at 0: done, on in VS at 4",
+            "vsie (204) 0 becomes 20: STI 0 to 1",
+            "it is kept in mie (304): 404 becomes 444, VSTI 0 to 1",
+            "SSI 1, SEI 1 are not stored: bits 10, 2 of hideleg (603) are 0",
+            "read of sie (104), which is vsie (204) here, in VS at 4: done, on in VS at 8",
+            "vsie (204) 20: STI",
+            "SSI, SEI are not shown: bits 10, 2 of hideleg (603) are 0",
+            "set of bits in sip (144), which is vsip (244) here, in VS at 8: done, on in VS at c",
+            "vsip (244) stays 0",
+            "SSI 1 is not stored: bit 2 of hideleg (603) is 0",
+            "STI 1 is not stored: hvip (645) alone writes it",
+        ]
+    );
+    let script = "hart 0 1 0\nwrite 645 444\nwrite 644 0\nwrite 604 4\nwrite 100 2\n";
+    assert_eq!(
+        lines(script),
+        [
+            "write to hvip (645) in HS at 0: done, on in HS at 4",
+            "hvip (645) 0 becomes 444: VSSI 0 to 1, VSTI 0 to 1, VSEI 0 to 1",
+            "it is kept in mip (344): 0 becomes 444",
+            "write to hip (644) in HS at 4: done, on in HS at 8",
+            "hip (644) 444 becomes 440: VSSI 1 to 0",
+            "it is kept in mip (344): 444 becomes 440",
+            "VSTI 0, VSEI 0 are not stored: hvip (645) alone writes them",
+            "write to hie (604) in HS at 8: done, on in HS at c",
+            "hie (604) 0 becomes 4: VSSI 0 to 1",
+            "it is kept in mie (304): 0 becomes 4",
+            "write to sstatus (100) in HS at c: done, on in HS at 10",
+            "sstatus (100) 200000000 becomes 200000002: SIE 0 to 1",
+            "it is kept in mstatus (300): a00000000 becomes a00000002",
+        ]
+    );
+}
+
+#[test]
+fn an_interrupt_says_which_why_and_where() {
+    let scene = "reg 303 666\nreg 603 444\nreg 304 eee\nreg 305 2001\nreg 105 3000\nreg 205 4001\n";
+    let taken = |mode: &str, more: &str| lines(&format!("hart {mode}\n{scene}{more}interrupt\n"));
+    assert_eq!(
+        taken("1 1 1000", "reg 344 2aa\n"),
+        [
+            "interrupt in VS at 1000: machine software interrupt (3) goes to M at 200c",
+            "pending and enabled: supervisor software (1), machine software (3), supervisor timer (5), machine timer (7), supervisor external (9)",
+            "to M: mideleg does not hand it down",
+            "it comes before machine timer (7): the order is b, 3, 7, 9, 1, 5, a, 2, 6",
+            "it comes before supervisor external (9), supervisor software (1), supervisor timer (5): M comes before HS, and HS before VS",
+            "mtvec (305) is vectored: pc is its base 2000 plus 4 times 3",
+            "it wrote mstatus MPV 1, MPP 1, MPIE 0, MIE 0, GVA 0; mepc 1000; mcause 8000000000000003; mtval 0; mtval2 0; mtinst 0",
+            "why: interrupt 3 goes to M, bit 3 of mideleg is 0; VS is below M",
+        ]
+    );
+    assert_eq!(
+        taken("0 1 1000", "reg 300 a00000002\nreg 344 660\nreg 304 640\n"),
+        [
+            "interrupt in HS at 1000: supervisor external interrupt (9) goes to HS at 3000",
+            "pending and enabled: VS timer (6), supervisor external (9), VS external (a); pending, not enabled: supervisor timer (5)",
+            "to HS: mideleg hands it down, hideleg does not",
+            "VS external (a), VS timer (6) would go to VS: HS is outside the guest",
+            "stvec (105) is direct: pc is its base 3000",
+            "it wrote hstatus SPV 0, GVA 0; mstatus SPP 1, SPIE 1, SIE 0; sepc 1000; scause 8000000000000009; stval 0; htval 0; htinst 0",
+            "why: interrupt 9 goes to HS, bit 9 of hideleg is 0; mstatus.SIE is 1",
+        ]
+    );
+    assert_eq!(
+        taken("1 0 1000", "reg 344 444\n"),
+        [
+            "interrupt in VU at 1000: VS external interrupt (a) goes to VS at 4024",
+            "pending and enabled: VS software (2), VS timer (6), VS external (a)",
+            "to VS: mideleg and hideleg hand it down, as supervisor external interrupt (9)",
+            "it comes before VS software (2), VS timer (6): the order is b, 3, 7, 9, 1, 5, a, 2, 6",
+            "vstvec (205) is vectored: pc is its base 4000 plus 4 times 9",
+            "it wrote vsstatus SPP 0, SPIE 0, SIE 0; vsepc 1000; vscause 8000000000000009; vstval 0",
+            "why: interrupt a goes to VS, bit 10 of hideleg is 1; VU is below VS",
+        ]
+    );
+}
+
+#[test]
+fn no_interrupt_says_what_waits() {
+    assert_eq!(
+        lines("interrupt\nreg 344 808\ninterrupt\n"),
+        [
+            "interrupt in M at 0: none is due, on in M at 0",
+            "why: no interrupt is pending",
+            "interrupt in M at 0: none is due, on in M at 0",
+            "pending, not enabled: machine software (3), machine external (b)",
+            "why: no pending interrupt is enabled",
+        ]
+    );
+    let scene = "hart 0 3 40\nreg 303 646\nreg 603 4\nreg 344 666\nreg 304 266\n";
+    assert_eq!(
+        lines(&format!("{scene}interrupt\n")),
+        [
+            "interrupt in M at 40: none is due, on in M at 40",
+            "pending and enabled: supervisor software (1), VS software (2), supervisor timer (5), VS timer (6), supervisor external (9); pending, not enabled: VS external (a)",
+            "supervisor timer (5) would go to M: mstatus.MIE is 0",
+            "supervisor external (9), supervisor software (1), VS timer (6) would go to HS: M is above HS",
+            "VS software (2) would go to VS: M is outside the guest",
+            "why: interrupt 5 would go to M, bit 5 of mideleg is 0; mstatus.MIE is 0",
+        ]
+    );
+}
+
+/// The reason of an `interrupt` in each mode, for one interrupt of each level, with the bit that may let it through clear and set.
+#[test]
+fn the_reasons_of_interrupts() {
+    let reason = |mode: &str, scene: &str| {
+        let said = lines(&format!("hart {mode} 0\n{scene}interrupt\n"));
+        let why = said.last().and_then(|line| line.strip_prefix("why: "));
+        why.unwrap_or_default().to_owned()
+    };
+    let (machine, supervisor, guest) = (
+        "reg 344 80\nreg 304 80\n",
+        "reg 344 40\nreg 304 40\n",
+        "reg 344 40\nreg 304 40\nreg 603 40\n",
+    );
+    let enabled = "reg 300 a0000000a\nreg 200 200000002\n";
+    for (mode, scene, clear, set) in [
+        (
+            "0 3",
+            machine,
+            "would go to M, bit 7 of mideleg is 0; mstatus.MIE is 0",
+            "goes to M, bit 7 of mideleg is 0; mstatus.MIE is 1",
+        ),
+        (
+            "0 1",
+            machine,
+            "goes to M, bit 7 of mideleg is 0; HS is below M",
+            "",
+        ),
+        (
+            "0 0",
+            machine,
+            "goes to M, bit 7 of mideleg is 0; U is below M",
+            "",
+        ),
+        (
+            "1 1",
+            machine,
+            "goes to M, bit 7 of mideleg is 0; VS is below M",
+            "",
+        ),
+        (
+            "1 0",
+            machine,
+            "goes to M, bit 7 of mideleg is 0; VU is below M",
+            "",
+        ),
+        (
+            "0 3",
+            supervisor,
+            "would go to HS, bit 6 of hideleg is 0; M is above HS",
+            "",
+        ),
+        (
+            "0 1",
+            supervisor,
+            "would go to HS, bit 6 of hideleg is 0; mstatus.SIE is 0",
+            "goes to HS, bit 6 of hideleg is 0; mstatus.SIE is 1",
+        ),
+        (
+            "0 0",
+            supervisor,
+            "goes to HS, bit 6 of hideleg is 0; U is below HS",
+            "",
+        ),
+        (
+            "1 1",
+            supervisor,
+            "goes to HS, bit 6 of hideleg is 0; VS is below HS",
+            "",
+        ),
+        (
+            "1 0",
+            supervisor,
+            "goes to HS, bit 6 of hideleg is 0; VU is below HS",
+            "",
+        ),
+        (
+            "0 3",
+            guest,
+            "would go to VS, bit 6 of hideleg is 1; M is outside the guest",
+            "",
+        ),
+        (
+            "0 1",
+            guest,
+            "would go to VS, bit 6 of hideleg is 1; HS is outside the guest",
+            "",
+        ),
+        (
+            "0 0",
+            guest,
+            "would go to VS, bit 6 of hideleg is 1; U is outside the guest",
+            "",
+        ),
+        (
+            "1 1",
+            guest,
+            "would go to VS, bit 6 of hideleg is 1; vsstatus.SIE is 0",
+            "goes to VS, bit 6 of hideleg is 1; vsstatus.SIE is 1",
+        ),
+        (
+            "1 0",
+            guest,
+            "goes to VS, bit 6 of hideleg is 1; VU is below VS",
+            "",
+        ),
+    ] {
+        let number = if scene == machine { 7 } else { 6 };
+        let told = |reason: &str| format!("interrupt {number} {reason}");
+        assert_eq!(reason(mode, scene), told(clear));
+        let set = if set.is_empty() { clear } else { set };
+        assert_eq!(reason(mode, &format!("{scene}{enabled}")), told(set));
+    }
+}
+
+#[test]
+fn a_cause_register_names_an_interrupt() {
+    let script = "reg 342 8000000000000007\nread 342\nwrite 342 d\nwrite 342 8000000000000000\nreg 242 8000000000000005\nread 242\n";
+    let said = lines(script);
+    let said: Vec<&str> = said.iter().map(String::as_str).collect();
+    assert_eq!(
+        [said[1], said[3], said[5], said[7]],
+        [
+            "mcause (342) 8000000000000007: machine timer interrupt",
+            "mcause (342) 8000000000000007 becomes d: machine timer interrupt to load page fault",
+            "mcause (342) d becomes 8000000000000000: load page fault to no cause",
+            "vscause (242) 8000000000000005: supervisor timer interrupt",
+        ]
     );
 }
 

@@ -60,6 +60,34 @@ fn events_are_answered() {
 }
 
 #[test]
+fn interrupts_are_answered() {
+    let pending = "hart 0 0 10\nreg 304 80\nreg 344 80\n";
+    let taken = answers(format!("{pending}interrupt\nread 341\nread 342\n").as_bytes());
+    assert_eq!(taken, "ok\nvalue 10\nvalue 8000000000000007\n");
+    let shown = answers(b"hart 0 0 10\nreg 344 80\nshow\n");
+    assert_eq!(
+        answers(b"hart 0 0 10\nreg 344 80\ninterrupt\nshow\n"),
+        format!("ok\n{shown}"),
+        "none is due"
+    );
+    assert_eq!(answers(b"reg 303 0\ninterrupt\n"), "refused 2\n");
+    assert_eq!(
+        answers(b"trap 8000000000000007 0 0 0 0\n"),
+        "refused 4\n",
+        "interrupts come from pending bits alone"
+    );
+}
+
+#[test]
+fn a_hart_shows_thirty_one_registers() {
+    let shown = answers(b"show\n");
+    assert_eq!(shown.lines().count(), 1 + 31);
+    for line in ["reg 303 444", "reg 304 0", "reg 344 0", "reg 603 0"] {
+        assert!(shown.lines().any(|shown| shown == line), "{line}");
+    }
+}
+
+#[test]
 fn what_show_writes_is_a_script() {
     let shown = answers(b"hart 1 1 1234\nreg 200 5\nreg 680 7\nshow\n");
     assert!(shown.starts_with("hart 1 1 1234\nreg 105 0\n"));
@@ -90,7 +118,16 @@ fn bad_lines_end_the_run() {
         "put 0 0",
         "reg 100 0",
         "reg e12 0",
+        "reg 104 0",
+        "reg 144 0",
+        "reg 204 0",
+        "reg 244 0",
+        "reg 604 0",
+        "reg 607 0",
+        "reg 644 0",
+        "reg 645 0",
         "reg 123 0",
+        "interrupt 7",
         "file 0",
         "file 0 .",
         "image 0 1000000000000000",
@@ -140,7 +177,16 @@ fn a_bad_line_is_told_by_its_place_and_what_to_write() {
         (b"put 8 0", "5: the eight bytes at 8 don't lie in the image, which is empty"),
         (b"reg 100 0", "5: sstatus (100) is not stored: it is a view of mstatus (300)"),
         (b"reg e12 0", "5: hgeip (e12) is not stored: it is a constant"),
+        (b"reg 104 0", "5: sie (104) is not stored: it is a view of mie (304)"),
+        (b"reg 244 0", "5: vsip (244) is not stored: it is a view of mip (344)"),
+        (b"reg 645 0", "5: hvip (645) is not stored: it is a view of mip (344)"),
+        (b"reg 607 0", "5: hgeie (607) is not stored: it is a constant"),
         (b"reg 123 0", "5: the model has no register 123"),
+        (b"read mideleg", "6: `mideleg` is no number: registers go by number: mideleg, which is 303"),
+        (b"read hvpi", "6: `hvpi` is no number: did you mean hvip, which is 645?"),
+        (b"interrupt 7", "11: interrupt takes no number; `7` is too much"),
+        (b"interupt", "1: `interupt` is no word of the language: did you mean interrupt?"),
+        (b"INTERRUPT", "1: `INTERRUPT` is no word of the language: words are lower case, `interrupt`"),
         (b"image 0 1000000000000000", "9: an image of 1000000000000000 bytes is more than this program holds"),
     ] {
         assert_eq!(sentence(line), told, "{}", line.escape_ascii());

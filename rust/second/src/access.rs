@@ -2,7 +2,7 @@
 
 use crate::bits::bit;
 use crate::hart::{Hart, Mode};
-use crate::registers::{after_write, find, Level, Row, HGATP, SATP, SSTATUS, TVM, VTVM};
+use crate::registers::{after_write, find, Level, Row, View, HGATP, SATP, TVM, VTVM};
 use crate::trap::{
     self, forbidden, illegal, refused, refused_hart, virtual_instruction, Control, Forbidden,
     Outcome, Raised, Refusal,
@@ -44,7 +44,7 @@ impl Action {
         }
     }
 
-    /// The value that the write rules see, made from the old value.
+    /// The value that the write rules see, made from the old value, which is what a read shows.
     fn combined(self, old: u64) -> u64 {
         match self {
             Action::Read => old,
@@ -89,8 +89,7 @@ fn done(hart: &Hart, row: &Row, action: Action) -> Accessed {
     let old = content(hart, row);
     let mut after = *hart;
     if action.writes() {
-        let new = after_write(row, old, action.combined(old));
-        store(&mut after, row, new);
+        write(&mut after, row, action.combined(old));
     }
     Accessed {
         old,
@@ -150,25 +149,43 @@ fn reached_from_vu(row: &'static Row) -> Result<&'static Row, Raised> {
     }
 }
 
-/// The VS register of an S register: "VS: the same seven at 200, 205, 240-243, 280."
+/// The VS register of an S register: "VS: the same seven at 200, 205, 240-243, 280", and vsie 204 and vsip 244 of sie and sip.
 fn vs_register_of(row: &Row) -> Option<&'static Row> {
     find(row.number.wrapping_add(0x100))
 }
 
-/// What a register reads as. sstatus is a view of mstatus; hgeip is 0.
+/// What a register reads as. A view shows bits of its home; hgeie and hgeip are 0.
 fn content(hart: &Hart, row: &Row) -> u64 {
-    if row.number == SSTATUS {
-        return (hart.mstatus & row.stored) | row.constant;
+    match row.view {
+        Some(view) => view.read(home(hart, &view), gate(hart, &view)) | row.constant,
+        None => hart.stored(row.number).unwrap_or(0),
     }
-    hart.stored(row.number).unwrap_or(0)
 }
 
-/// Puts new content in a register. Through sstatus only sstatus's own bits of mstatus change.
-fn store(hart: &mut Hart, row: &Row, new: u64) {
-    if row.number == SSTATUS {
-        hart.mstatus = (hart.mstatus & !row.stored) | (new & row.stored);
-    } else if let Some(place) = hart.stored_mut(row.number) {
+/// Writes a value to a register. Through a view only the bits that it writes change in its home; a write to hgeie stores nothing.
+fn write(hart: &mut Hart, row: &Row, value: u64) {
+    let (number, new) = match row.view {
+        Some(view) => (
+            view.home,
+            view.write(home(hart, &view), gate(hart, &view), value),
+        ),
+        None => (row.number, after_write(row, content(hart, row), value)),
+    };
+    if let Some(place) = hart.stored_mut(number) {
         *place = new;
+    }
+}
+
+/// What a view's home holds.
+fn home(hart: &Hart, view: &View) -> u64 {
+    hart.stored(view.home).unwrap_or(0)
+}
+
+/// What a view's gate holds: all ones where it has none.
+fn gate(hart: &Hart, view: &View) -> u64 {
+    match view.gate {
+        Some(number) => hart.stored(number).unwrap_or(0),
+        None => u64::MAX,
     }
 }
 
@@ -179,7 +196,9 @@ mod tests {
     use crate::hart::BadHart;
     use crate::reasons::Reason;
     use crate::registers::{
-        HEDELEG, HGEIP, HSTATUS, MEDELEG, MSTATUS, ROWS, SSCRATCH, SUM, VSATP, VSSTATUS, VSTVEC,
+        HEDELEG, HGEIE, HGEIP, HIDELEG, HIE, HIP, HSTATUS, HVIP, MEDELEG, MIDELEG, MIE_REGISTER,
+        MIP, MSTATUS, ROWS, SIE_REGISTER, SIP, SSCRATCH, SSTATUS, SUM, VSATP, VSIE, VSIP, VSSTATUS,
+        VSTVEC,
     };
     use crate::trap::{Ending, Trap};
 
@@ -279,13 +298,13 @@ mod tests {
     }
 
     fn expected_cause(mode: Mode, tvm: bool, vtvm: bool, number: u64, writes: bool) -> Option<u64> {
-        let s = matches!(number, 0x100 | 0x105 | 0x140..=0x143 | 0x180);
-        let vs = matches!(number, 0x200 | 0x205 | 0x240..=0x243 | 0x280);
-        let h = matches!(number, 0x600 | 0x602 | 0x643 | 0x64a | 0x680 | 0xe12);
-        let m = matches!(
+        let s = matches!(number, 0x100 | 0x104 | 0x105 | 0x140..=0x144 | 0x180);
+        let vs = matches!(number, 0x200 | 0x204 | 0x205 | 0x240..=0x244 | 0x280);
+        let h = matches!(
             number,
-            0x300 | 0x302 | 0x305 | 0x340..=0x343 | 0x34a | 0x34b
+            0x600 | 0x602..=0x604 | 0x607 | 0x643..=0x645 | 0x64a | 0x680 | 0xe12
         );
+        let m = matches!(number, 0x300 | 0x302..=0x305 | 0x340..=0x344 | 0x34a | 0x34b);
         if !(s || vs || h || m) || (number == 0xe12 && writes) {
             return Some(2);
         }
@@ -337,7 +356,7 @@ mod tests {
 
     #[test]
     fn each_register_is_read_written_set_and_cleared_from_m() {
-        for row in &ROWS {
+        for row in ROWS.iter().filter(|row| row.view.is_none()) {
             if row.read_only {
                 continue;
             }
@@ -400,11 +419,16 @@ mod tests {
         let accessed = access(&accessed.outcome.hart, SSTATUS, Action::Write(u64::MAX));
         assert_eq!(accessed.old, 0x2_0000_0000);
         assert_eq!(accessed.outcome.hart.mstatus, 0xca_007c_19aa);
+        // The known replay: all ones written.
+        let accessed = access(&hart(Mode::M), SSTATUS, Action::Write(u64::MAX));
+        let read = access(&accessed.outcome.hart, SSTATUS, Action::Read);
+        assert_eq!(read.old, 0x2_000c_0122);
     }
 
     #[test]
     fn in_vs_an_s_number_reaches_its_vs_register() {
-        for row in ROWS.iter().filter(|row| row.level == Level::S) {
+        let s_rows = ROWS.iter().filter(|row| row.level == Level::S);
+        for row in s_rows.filter(|row| row.number != SIE_REGISTER && row.number != SIP) {
             let mut before = hart(Mode::Vs);
             before.mstatus |= 1 << SUM;
             before.vsstatus = 0x2_0000_0102;
@@ -480,5 +504,240 @@ mod tests {
             cause(&access(&hart(Mode::Hs), MEDELEG, Action::Read)),
             Some(2)
         );
+    }
+
+    // The registers of interrupts.
+
+    /// The hart after this value is written to a register from this mode; the write is done.
+    fn after(before: &Hart, number: u64, value: u64) -> Hart {
+        let accessed = access(before, number, Action::Write(value));
+        assert_eq!(cause(&accessed), None, "{number:x}");
+        assert!(accessed.outcome.hart.checked_mode().is_some());
+        accessed.outcome.hart
+    }
+
+    /// What a read of a register shows; the read is done.
+    fn shown(before: &Hart, number: u64) -> u64 {
+        let accessed = access(before, number, Action::Read);
+        assert_eq!(cause(&accessed), None, "{number:x}");
+        accessed.old
+    }
+
+    /// All ones written from M to each new register, first with nothing delegated, then with everything: what it reads as, and
+    /// what mideleg, mie, mip and hideleg hold.
+    #[test]
+    fn all_ones_written_to_the_registers_of_interrupts() {
+        let nothing = hart(Mode::M);
+        let mut everything = hart(Mode::M);
+        everything.mideleg = 0x666;
+        everything.hideleg = 0x444;
+        for (before, number, reads, stored) in [
+            (nothing, MIDELEG, 0x666, [0x666, 0, 0, 0]),
+            (nothing, MIE_REGISTER, 0xeee, [0x444, 0xeee, 0, 0]),
+            (nothing, MIP, 0x226, [0x444, 0, 0x226, 0]),
+            (nothing, HIDELEG, 0x444, [0x444, 0, 0, 0x444]),
+            (nothing, SIE_REGISTER, 0, [0x444, 0, 0, 0]),
+            (nothing, SIP, 0, [0x444, 0, 0, 0]),
+            (nothing, HIE, 0x444, [0x444, 0x444, 0, 0]),
+            (nothing, HIP, 0x004, [0x444, 0, 0x004, 0]),
+            (nothing, HVIP, 0x444, [0x444, 0, 0x444, 0]),
+            (nothing, HGEIE, 0, [0x444, 0, 0, 0]),
+            (nothing, VSIE, 0, [0x444, 0, 0, 0]),
+            (nothing, VSIP, 0, [0x444, 0, 0, 0]),
+            (everything, SIE_REGISTER, 0x222, [0x666, 0x222, 0, 0x444]),
+            (everything, SIP, 0x002, [0x666, 0, 0x002, 0x444]),
+            (everything, VSIE, 0x222, [0x666, 0x444, 0, 0x444]),
+            (everything, VSIP, 0x002, [0x666, 0, 0x004, 0x444]),
+        ] {
+            let left = after(&before, number, u64::MAX);
+            assert_eq!(shown(&left, number), reads, "{number:x}");
+            let held = [left.mideleg, left.mie, left.mip, left.hideleg];
+            assert_eq!(held, stored, "{number:x}");
+            let mut expected = before.moved_on();
+            [
+                expected.mideleg,
+                expected.mie,
+                expected.mip,
+                expected.hideleg,
+            ] = stored;
+            assert_eq!(left, expected, "nothing else changes");
+        }
+    }
+
+    /// Zero written from M to each new register of a hart in which every bit is set and everything is delegated.
+    #[test]
+    fn zero_written_to_the_registers_of_interrupts() {
+        let mut full = hart(Mode::M);
+        [full.mideleg, full.mie, full.mip, full.hideleg] = [0x666, 0xeee, 0xeee, 0x444];
+        for (number, was, stored) in [
+            (MIDELEG, 0x666, [0x444, 0xeee, 0xeee, 0x444]),
+            (MIE_REGISTER, 0xeee, [0x666, 0, 0xeee, 0x444]),
+            (MIP, 0xeee, [0x666, 0xeee, 0xcc8, 0x444]),
+            (HIDELEG, 0x444, [0x666, 0xeee, 0xeee, 0]),
+            (SIE_REGISTER, 0x222, [0x666, 0xccc, 0xeee, 0x444]),
+            (SIP, 0x222, [0x666, 0xeee, 0xeec, 0x444]),
+            (HIE, 0x444, [0x666, 0xaaa, 0xeee, 0x444]),
+            (HIP, 0x444, [0x666, 0xeee, 0xeea, 0x444]),
+            (HVIP, 0x444, [0x666, 0xeee, 0xaaa, 0x444]),
+            (HGEIE, 0, [0x666, 0xeee, 0xeee, 0x444]),
+            (VSIE, 0x222, [0x666, 0xaaa, 0xeee, 0x444]),
+            (VSIP, 0x222, [0x666, 0xeee, 0xeea, 0x444]),
+        ] {
+            assert_eq!(shown(&full, number), was, "{number:x}");
+            let left = after(&full, number, 0);
+            let held = [left.mideleg, left.mie, left.mip, left.hideleg];
+            assert_eq!(held, stored, "{number:x}");
+        }
+    }
+
+    /// sie and sip, from each mode in which S's numbers are S's: each bit of mideleg lets its own bit through, and no other.
+    #[test]
+    fn sie_and_sip_show_what_mideleg_hands_down() {
+        for mode in [Mode::M, Mode::Hs] {
+            for handed_down in [0, 0x002, 0x020, 0x200, 0x022, 0x202, 0x220, 0x222] {
+                let mut full = hart(mode);
+                [full.mideleg, full.mie, full.mip] = [0x444 | handed_down, 0xeee, 0xeee];
+                assert_eq!(shown(&full, SIE_REGISTER), handed_down);
+                assert_eq!(shown(&full, SIP), handed_down);
+                let left = after(&full, SIE_REGISTER, 0);
+                assert_eq!((left.mie, left.mip), (0xeee & !handed_down, 0xeee));
+                let left = after(&full, SIP, 0);
+                assert_eq!((left.mie, left.mip), (0xeee, 0xeee & !(handed_down & 2)));
+                let mut empty = full;
+                [empty.mie, empty.mip] = [0, 0];
+                let left = after(&empty, SIE_REGISTER, u64::MAX);
+                assert_eq!((left.mie, left.mip), (handed_down, 0));
+                let left = after(&empty, SIP, u64::MAX);
+                assert_eq!((left.mie, left.mip), (0, handed_down & 2));
+            }
+        }
+    }
+
+    /// vsie and vsip by their own numbers from M and HS, and by those of sie and sip from VS: each bit of hideleg lets its own bit
+    /// through, one place lower.
+    #[test]
+    fn vsie_and_vsip_show_what_hideleg_hands_down() {
+        for (mode, sie, sip) in [
+            (Mode::M, VSIE, VSIP),
+            (Mode::Hs, VSIE, VSIP),
+            (Mode::Vs, SIE_REGISTER, SIP),
+        ] {
+            for handed_down in [0, 0x004, 0x040, 0x400, 0x044, 0x404, 0x440, 0x444] {
+                for mideleg in [0x444, 0x666] {
+                    let mut full = hart(mode);
+                    [full.mideleg, full.hideleg] = [mideleg, handed_down];
+                    [full.mie, full.mip] = [0xeee, 0xeee];
+                    assert_eq!(shown(&full, sie), handed_down / 2);
+                    assert_eq!(shown(&full, sip), handed_down / 2);
+                    let left = after(&full, sie, 0);
+                    assert_eq!((left.mie, left.mip), (0xeee & !handed_down, 0xeee));
+                    let left = after(&full, sip, 0);
+                    assert_eq!((left.mie, left.mip), (0xeee, 0xeee & !(handed_down & 4)));
+                    let mut empty = full;
+                    [empty.mie, empty.mip] = [0, 0];
+                    let left = after(&empty, sie, u64::MAX);
+                    assert_eq!((left.mie, left.mip), (handed_down, 0));
+                    let left = after(&empty, sip, u64::MAX);
+                    assert_eq!((left.mie, left.mip), (0, handed_down & 4));
+                }
+            }
+        }
+    }
+
+    /// hie, hip and hvip, from both modes that reach them: nothing that is delegated counts.
+    #[test]
+    fn hie_hip_and_hvip_show_three_bits_of_mie_and_mip() {
+        for mode in [Mode::M, Mode::Hs] {
+            for (mideleg, hideleg) in [(0x444, 0), (0x666, 0x444)] {
+                for bits in [0x004, 0x040, 0x400] {
+                    let mut before = hart(mode);
+                    [before.mideleg, before.hideleg] = [mideleg, hideleg];
+                    [before.mie, before.mip] = [0xaaa | bits, 0xaaa];
+                    assert_eq!([HIE, HIP, HVIP].map(|n| shown(&before, n)), [bits, 0, 0]);
+                    [before.mie, before.mip] = [0xaaa, 0xaaa | bits];
+                    assert_eq!([HIE, HIP, HVIP].map(|n| shown(&before, n)), [0, bits, bits]);
+                    assert_eq!(after(&before, HVIP, 0).mip, 0xaaa);
+                    let kept = bits & 0x440;
+                    assert_eq!(after(&before, HIP, 0).mip, 0xaaa | kept);
+                    assert_eq!(after(&before, HIE, bits).mie, 0xaaa | bits);
+                }
+            }
+        }
+    }
+
+    /// Bit 6 and bit 10 of mip move through hvip alone; bit 2 through all four; 3, 7 and 11 through none.
+    #[test]
+    fn which_registers_move_each_bit_of_mip() {
+        let mut empty = hart(Mode::M);
+        [empty.mideleg, empty.hideleg] = [0x666, 0x444];
+        let mut full = empty;
+        full.mip = 0xeee;
+        for (position, movers) in [
+            (1, vec![MIP, SIP]),
+            (2, vec![MIP, HIP, HVIP, VSIP]),
+            (3, vec![]),
+            (5, vec![MIP]),
+            (6, vec![HVIP]),
+            (7, vec![]),
+            (9, vec![MIP]),
+            (10, vec![HVIP]),
+            (11, vec![]),
+        ] {
+            for row in &ROWS {
+                if row.read_only {
+                    continue;
+                }
+                let moves = movers.contains(&row.number);
+                let set = after(&empty, row.number, u64::MAX).mip;
+                assert_eq!(bit(set, position), moves, "{} {position}", row.name);
+                let cleared = after(&full, row.number, 0).mip;
+                assert_eq!(bit(cleared, position), !moves, "{} {position}", row.name);
+            }
+        }
+    }
+
+    #[test]
+    fn set_and_clear_of_a_view_combine_with_what_it_shows() {
+        let mut before = hart(Mode::Hs);
+        [before.mideleg, before.hideleg] = [0x446, 0x004];
+        [before.mie, before.mip] = [0x884, 0xccc];
+        let set = |value| Action::Set {
+            value,
+            writes: true,
+        };
+        let clear = |value| Action::Clear {
+            value,
+            writes: true,
+        };
+        for (number, action, old, mie, mip) in [
+            (SIE_REGISTER, set(0x222), 0, 0x886, 0xccc),
+            (SIP, set(0x222), 0, 0x884, 0xcce),
+            (VSIE, clear(0x222), 0x002, 0x880, 0xccc),
+            (VSIE, set(0x220), 0x002, 0x884, 0xccc),
+            (VSIP, clear(0x002), 0x002, 0x884, 0xcc8),
+            (VSIP, set(0), 0x002, 0x884, 0xccc),
+            (HIP, clear(0x440), 0x444, 0x884, 0xccc),
+            (HVIP, clear(0x040), 0x444, 0x884, 0xc8c),
+            (HIE, set(0x440), 0x004, 0xcc4, 0xccc),
+        ] {
+            let accessed = access(&before, number, action);
+            let left = accessed.outcome.hart;
+            assert_eq!(accessed.old, old, "{number:x} {action:?}");
+            assert_eq!((left.mie, left.mip), (mie, mip), "{number:x} {action:?}");
+        }
+    }
+
+    /// hgeie reads 0 and is no read-only register: a write to it is done and stores nothing. hgeip's is cause 2.
+    #[test]
+    fn hgeie_is_zero_and_written() {
+        for mode in [Mode::M, Mode::Hs] {
+            let before = hart(mode);
+            assert_eq!(after(&before, HGEIE, u64::MAX), before.moved_on());
+            assert_eq!(shown(&after(&before, HGEIE, u64::MAX), HGEIE), 0);
+            let write = access(&before, HGEIP, Action::Write(0));
+            assert_eq!(cause(&write), Some(2));
+        }
+        let in_vs = access(&hart(Mode::Vs), HGEIE, Action::Write(0));
+        assert_eq!(cause(&in_vs), Some(22));
     }
 }

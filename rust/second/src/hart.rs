@@ -1,4 +1,4 @@
-//! The hart: its mode, its program counter, its twenty-seven stored registers, and check 2.
+//! The hart: its mode, its program counter, its thirty-one stored registers, and check 2.
 
 use crate::bits::bit;
 use crate::registers::{self, wrong, Row, Wrong, MPRV, ROWS};
@@ -106,15 +106,19 @@ pub struct Hart {
     pub vsatp: u64,
     pub mstatus: u64,
     pub medeleg: u64,
+    pub mideleg: u64,
+    pub mie: u64,
     pub mtvec: u64,
     pub mscratch: u64,
     pub mepc: u64,
     pub mcause: u64,
     pub mtval: u64,
+    pub mip: u64,
     pub mtinst: u64,
     pub mtval2: u64,
     pub hstatus: u64,
     pub hedeleg: u64,
+    pub hideleg: u64,
     pub htval: u64,
     pub htinst: u64,
     pub hgatp: u64,
@@ -142,15 +146,19 @@ impl Hart {
             vsatp: 0,
             mstatus: 0xa_0000_0000,
             medeleg: 0,
+            mideleg: 0x444,
+            mie: 0,
             mtvec: 0,
             mscratch: 0,
             mepc: 0,
             mcause: 0,
             mtval: 0,
+            mip: 0,
             mtinst: 0,
             mtval2: 0,
             hstatus: 0x2_0000_0000,
             hedeleg: 0,
+            hideleg: 0,
             htval: 0,
             htinst: 0,
             hgatp: 0,
@@ -181,15 +189,19 @@ impl Hart {
             registers::VSATP => Some(&mut self.vsatp),
             registers::MSTATUS => Some(&mut self.mstatus),
             registers::MEDELEG => Some(&mut self.medeleg),
+            registers::MIDELEG => Some(&mut self.mideleg),
+            registers::MIE_REGISTER => Some(&mut self.mie),
             registers::MTVEC => Some(&mut self.mtvec),
             registers::MSCRATCH => Some(&mut self.mscratch),
             registers::MEPC => Some(&mut self.mepc),
             registers::MCAUSE => Some(&mut self.mcause),
             registers::MTVAL => Some(&mut self.mtval),
+            registers::MIP => Some(&mut self.mip),
             registers::MTINST => Some(&mut self.mtinst),
             registers::MTVAL2 => Some(&mut self.mtval2),
             registers::HSTATUS => Some(&mut self.hstatus),
             registers::HEDELEG => Some(&mut self.hedeleg),
+            registers::HIDELEG => Some(&mut self.hideleg),
             registers::HTVAL => Some(&mut self.htval),
             registers::HTINST => Some(&mut self.htinst),
             registers::HGATP => Some(&mut self.hgatp),
@@ -245,7 +257,7 @@ impl Hart {
 #[cfg(test)]
 mod tests {
     use super::*;
-    use crate::registers::{after_write, HGEIP, SSTATUS};
+    use crate::registers::{after_write, HGEIE, HGEIP};
 
     #[test]
     fn five_modes_and_no_other() {
@@ -263,14 +275,17 @@ mod tests {
     }
 
     #[test]
-    fn twenty_seven_registers_are_stored() {
+    fn thirty_one_registers_are_stored() {
         let hart = Hart::new(0, 3, 0);
         let stored = ROWS
             .iter()
             .filter(|row| hart.stored(row.number).is_some())
             .count();
-        assert_eq!(stored, 27);
-        assert_eq!(hart.stored(SSTATUS), None);
+        assert_eq!(stored, 31);
+        for row in ROWS.iter().filter(|row| row.view.is_some()) {
+            assert_eq!(hart.stored(row.number), None, "{}", row.name);
+        }
+        assert_eq!(hart.stored(HGEIE), None);
         assert_eq!(hart.stored(HGEIP), None);
         assert_eq!(hart.stored(0x1300), None);
     }
@@ -299,6 +314,8 @@ mod tests {
             }
         }
         assert_eq!((hart.satp, hart.vsatp, hart.mtval2), (0x180, 0x280, 0x34b));
+        assert_eq!((hart.mideleg, hart.hideleg), (0x303, 0x603));
+        assert_eq!((hart.mie, hart.mip), (0x304, 0x344));
     }
 
     #[test]
@@ -353,6 +370,37 @@ mod tests {
                 let place = hart.stored_mut(number).unwrap();
                 *place = (*place & !(3 << low)) | (content << low);
                 assert_eq!(hart.checked_mode().is_some(), content == 2);
+            }
+        }
+    }
+
+    /// The request's registers bit by bit: "Bits 2, 6 and 10 of mideleg read one; 1, 5 and 9 can be written", hideleg holds 2, 6
+    /// and 10, mie and mip all nine.
+    #[test]
+    fn each_bit_of_the_registers_of_interrupts_is_checked() {
+        let supervisor = [1, 5, 9];
+        let vs = [2, 6, 10];
+        let machine = [3, 7, 11];
+        let nine = [supervisor, vs, machine].concat();
+        for (number, from, free) in [
+            (registers::MIDELEG, 0x444, &supervisor[..]),
+            (registers::MIE_REGISTER, 0, &nine),
+            (registers::MIP, 0, &nine),
+            (registers::HIDELEG, 0, &vs),
+        ] {
+            for position in 0..64 {
+                let mut hart = Hart::new(0, 3, 0);
+                *hart.stored_mut(number).unwrap() = from ^ (1 << position);
+                let passes = free.contains(&position);
+                assert_eq!(hart.check().is_ok(), passes, "{number:x} bit {position}");
+                let wrong = match number == registers::MIDELEG && vs.contains(&position) {
+                    true => Wrong::ClearBit(position),
+                    false => Wrong::Bit(position),
+                };
+                if !passes {
+                    let row = registers::find(number).unwrap();
+                    assert_eq!(hart.check(), Err(BadHart::Register(row, wrong)));
+                }
             }
         }
     }

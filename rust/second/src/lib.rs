@@ -1,22 +1,23 @@
-//! The independent second program: the base model of document 01 written a second time, from the paper alone, so that the
-//! two programs can be compared byte by byte.
+//! The independent second program: the model of document 01 with change request 2026-01 written a second time, from the papers
+//! alone, so that the two programs can be compared byte by byte.
 //!
 //! One module for each subject, in the paper's order:
 //!
-//! | module | part of document 01 |
+//! | module | part of document 01, or request |
 //! |---|---|
 //! | [`bits`] | single bits and fields of a 64-bit number |
 //! | [`address`] | "Guest physical and machine addresses are kept as two kinds of number" |
-//! | [`registers`] | "Twenty-nine registers": the table, the stored bits, the write rules |
+//! | [`registers`] | "Twenty-nine registers" and the request's twelve: the table, the stored bits, the views, the write rules |
 //! | [`hart`] | the five modes, the hart, refusal 2 |
 //! | [`trap`] | refusal 4 and "Delivery" |
 //! | [`calls`] | environment calls and the breakpoint |
 //! | [`returns`] | MRET and SRET |
+//! | [`interrupts`] | request 2026-01: which interrupt is due, and taking it |
 //! | [`access`] | "Access": read, write, set and clear of a register, refusal 5 |
 //! | [`waits`] | WFI and the fences |
 //! | [`image`] | the image and refusal 1 |
 //! | [`walk`] | "The walk": translation of a fetch, load or store, refusal 3 |
-//! | [`reasons`] | what each rule that refused, trapped or faulted is called in words |
+//! | [`reasons`] | what each rule that refused, trapped, faulted or took an interrupt is called in words |
 //! | [`lines`] | the lines of a script, and the longest one |
 //! | [`script`] | the replay script language |
 //!
@@ -33,6 +34,7 @@ pub mod bits;
 pub mod calls;
 pub mod hart;
 pub mod image;
+pub mod interrupts;
 pub mod lines;
 pub mod reasons;
 pub mod registers;

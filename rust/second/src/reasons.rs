@@ -1,13 +1,15 @@
-//! Reasons in words: why an event was refused, why a translation ended with a fault, and why an access to a register, a return,
-//! WFI or a fence trapped. The rules themselves stand in the other modules; here is only what they are called.
+//! Reasons in words: why an event was refused, why a translation ended with a fault, why an access to a register, a return, WFI
+//! or a fence trapped, and why an interrupt was taken or none was due. The rules themselves stand in the other modules; here is
+//! only what they are called.
 
 use std::fmt::{Display, Formatter, Result};
 
 use crate::access::LAST_NUMBER;
 use crate::hart::{BadHart, Mode};
 use crate::image::{BadImage, END_LIMIT, LARGEST, PAGE};
+use crate::interrupts::{self, Interrupt, Rule as LevelRule};
 use crate::registers::Wrong;
-use crate::trap::{BadRequest, Control, Forbidden, Refusal};
+use crate::trap::{BadRequest, Control, Forbidden, Refusal, Target};
 use crate::walk::{BadAccess, Part, Rule, Why};
 
 /// A reason. Its text is what stands behind `# why: `.
@@ -19,6 +21,8 @@ pub enum Reason {
     Forbidden(Forbidden),
     /// The fault of a translation.
     Fault(Why),
+    /// What came of an interrupt.
+    Interrupt(interrupts::Why),
 }
 
 impl Display for Reason {
@@ -27,6 +31,7 @@ impl Display for Reason {
             Reason::Refused(refusal) => refusal.fmt(text),
             Reason::Forbidden(rule) => rule.fmt(text),
             Reason::Fault(why) => why.fmt(text),
+            Reason::Interrupt(why) => why.fmt(text),
         }
     }
 }
@@ -85,6 +90,7 @@ impl Display for Wrong {
                 write!(text, "{} is {holds:x}; it may hold {may_hold}", field.name)
             }
             Wrong::Bit(position) => write!(text, "bit {position} is 1; it may hold 0"),
+            Wrong::ClearBit(position) => write!(text, "bit {position} is 0; it may hold 1"),
         }
     }
 }
@@ -204,6 +210,67 @@ fn bit_name(control: Control) -> &'static str {
         Control::Vtvm => "hstatus.VTVM",
         Control::Vtw => "hstatus.VTW",
         Control::Vtsr => "hstatus.VTSR",
+    }
+}
+
+// Interrupts.
+
+impl Display for interrupts::Why {
+    fn fmt(&self, text: &mut Formatter) -> Result {
+        match self {
+            interrupts::Why::Taken(due) => {
+                write!(text, "interrupt {:x} goes to {due}", due.number)
+            }
+            interrupts::Why::NonePending => text.write_str("no interrupt is pending"),
+            interrupts::Why::NoneEnabled => text.write_str("no pending interrupt is enabled"),
+            interrupts::Why::Waits(waiting) => {
+                write!(text, "interrupt {:x} would go to {waiting}", waiting.number)
+            }
+        }
+    }
+}
+
+impl Display for Target {
+    fn fmt(&self, text: &mut Formatter) -> Result {
+        text.write_str(match self {
+            Target::M => "M",
+            Target::Hs => "HS",
+            Target::Vs => "VS",
+        })
+    }
+}
+
+/// The level, by which bit, and what the level's rule says.
+impl Display for Interrupt {
+    fn fmt(&self, text: &mut Formatter) -> Result {
+        let level = self.level;
+        let (delegation, is) = match level {
+            Target::M => ("mideleg", 0),
+            Target::Hs => ("hideleg", 0),
+            Target::Vs => ("hideleg", 1),
+        };
+        write!(
+            text,
+            "{level}, bit {} of {delegation} is {is}; ",
+            self.number
+        )?;
+        match (self.rule, level) {
+            (LevelRule::Always(mode), _) => write!(text, "{mode} is below {level}"),
+            (LevelRule::Enable(on), _) => {
+                write!(text, "{} is {}", enable_bit(level), u8::from(on))
+            }
+            (LevelRule::Never(mode), Target::Vs) => write!(text, "{mode} is outside the guest"),
+            (LevelRule::Never(mode), _) => write!(text, "{mode} is above {level}"),
+        }
+    }
+}
+
+/// The bit that decides in a level's own mode.
+fn enable_bit(level: Target) -> &'static str {
+    match level {
+        Target::M => "mstatus.MIE",
+        Target::Hs => "mstatus.SIE",
+        Target::Vs => "vsstatus.SIE",
     }
 }
 

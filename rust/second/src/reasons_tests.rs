@@ -78,6 +78,151 @@ fn a_hart_is_refused() {
             "reg 602 8000000000000200;reg 680 3;write 0 0",
             "hedeleg (602): bit 9 is 1; it may hold 0",
         ),
+        (
+            "reg 303 0;interrupt",
+            "mideleg (303): bit 2 is 0; it may hold 1",
+        ),
+        (
+            "reg 303 404;wfi",
+            "mideleg (303): bit 6 is 0; it may hold 1",
+        ),
+        (
+            "reg 303 3ff;wfi",
+            "mideleg (303): bit 0 is 1; it may hold 0",
+        ),
+        (
+            "reg 303 266;wfi",
+            "mideleg (303): bit 10 is 0; it may hold 1",
+        ),
+        (
+            "reg 303 1444;reg 304 1;wfi",
+            "mideleg (303): bit 12 is 1; it may hold 0",
+        ),
+        (
+            "reg 304 1eee;reg 344 1;wfi",
+            "mie (304): bit 12 is 1; it may hold 0",
+        ),
+        (
+            "reg 344 8000000000000000;interrupt",
+            "mip (344): bit 63 is 1; it may hold 0",
+        ),
+        (
+            "reg 603 2;reg 643 1;read 0",
+            "hideleg (603): bit 1 is 1; it may hold 0",
+        ),
+    ]);
+}
+
+/// Every reason that an interrupt can have: by mode, level and the three enable bits.
+#[test]
+fn an_interrupt_is_taken_or_none_is_due() {
+    let modes = [
+        ("0 0", "U"),
+        ("0 1", "HS"),
+        ("0 3", "M"),
+        ("1 0", "VU"),
+        ("1 1", "VS"),
+    ];
+    // mstatus with MIE or SIE alone, vsstatus with SIE.
+    let enabled = [
+        "reg 300 a00000008",
+        "reg 300 a00000002",
+        "reg 200 200000002",
+    ];
+    let levels = [
+        // 9 with mideleg's bit clear, 9 with it set, 10 with hideleg's bit set.
+        ("reg 344 200", "9", "M, bit 9 of mideleg is 0"),
+        ("reg 344 200;reg 303 644", "9", "HS, bit 9 of hideleg is 0"),
+        ("reg 344 400;reg 603 400", "a", "VS, bit 10 of hideleg is 1"),
+    ];
+    // What is said in each mode with the level's own bit 0 and with it 1, from U to VS.
+    let said = [
+        [
+            ["U is below M", "U is below M"],
+            ["HS is below M", "HS is below M"],
+            ["mstatus.MIE is 0", "mstatus.MIE is 1"],
+            ["VU is below M", "VU is below M"],
+            ["VS is below M", "VS is below M"],
+        ],
+        [
+            ["U is below HS", "U is below HS"],
+            ["mstatus.SIE is 0", "mstatus.SIE is 1"],
+            ["M is above HS", "M is above HS"],
+            ["VU is below HS", "VU is below HS"],
+            ["VS is below HS", "VS is below HS"],
+        ],
+        [
+            ["U is outside the guest", "U is outside the guest"],
+            ["HS is outside the guest", "HS is outside the guest"],
+            ["M is outside the guest", "M is outside the guest"],
+            ["VU is below VS", "VU is below VS"],
+            ["vsstatus.SIE is 0", "vsstatus.SIE is 1"],
+        ],
+    ];
+    for (place, (registers, number, level)) in levels.into_iter().enumerate() {
+        for ((mode, _), words) in modes.into_iter().zip(said[place]) {
+            for (on, words) in words.into_iter().enumerate() {
+                let bit = if on == 1 { enabled[place] } else { "" };
+                let goes = match words.ends_with('1') || words.contains("below") {
+                    true => "goes",
+                    false => "would go",
+                };
+                assert_eq!(
+                    why(&format!(
+                        "hart {mode} 0;reg 304 eee;{registers};{bit};interrupt"
+                    )),
+                    format!("interrupt {number} {goes} to {level}; {words}")
+                );
+            }
+        }
+    }
+}
+
+#[test]
+fn the_interrupt_that_is_named() {
+    check(&[
+        (
+            "hart 0 0 0;reg 304 eee;interrupt",
+            "no interrupt is pending",
+        ),
+        (
+            "hart 0 0 0;reg 304 eec;reg 344 2;interrupt",
+            "no pending interrupt is enabled",
+        ),
+        (
+            "hart 0 0 0;reg 304 eee;reg 344 eee;interrupt",
+            "interrupt b goes to M, bit 11 of mideleg is 0; U is below M",
+        ),
+        (
+            "hart 0 1 0;reg 304 eee;reg 344 88;interrupt",
+            "interrupt 3 goes to M, bit 3 of mideleg is 0; HS is below M",
+        ),
+        (
+            "hart 1 1 0;reg 304 eee;reg 344 444;interrupt",
+            "interrupt a goes to HS, bit 10 of hideleg is 0; VS is below HS",
+        ),
+        // HS's 6 is before VS's 2, whose bit of mip is said, not what is written.
+        (
+            "hart 1 0 0;reg 304 eee;reg 344 44;reg 603 4;interrupt",
+            "interrupt 6 goes to HS, bit 6 of hideleg is 0; VU is below HS",
+        ),
+        (
+            "hart 1 0 0;reg 304 4;reg 344 44;reg 603 4;interrupt",
+            "interrupt 2 goes to VS, bit 2 of hideleg is 1; VU is below VS",
+        ),
+        // In M with MIE=0 the first by level is M's, even if HS's 9 stands before its 5 in the order.
+        (
+            "reg 304 eee;reg 344 220;reg 303 644;interrupt",
+            "interrupt 5 would go to M, bit 5 of mideleg is 0; mstatus.MIE is 0",
+        ),
+        (
+            "hart 0 3 2;reg 344 2;interrupt",
+            "pc 2 is not a multiple of 4",
+        ),
+        (
+            "trap 800000000000000b 0 0 0 0",
+            "the model has no cause 800000000000000b",
+        ),
     ]);
 }
 
@@ -175,6 +320,13 @@ fn an_access_to_a_register_is_refused_or_traps() {
         ("hart 0 1 0;reg 300 a00100000;read 680", "mstatus.TVM is 1"),
         ("hart 1 1 0;reg 600 200100000;read 180", "hstatus.VTVM is 1"),
         ("read 300", "none"),
+        ("hart 1 1 0;read 604", "hie (604) is out of reach in VS"),
+        ("hart 1 1 0;read 204", "vsie (204) is out of reach in VS"),
+        ("hart 1 0 0;write 104 0", "sie (104) is out of reach in VU"),
+        ("hart 0 1 0;read 344", "mip (344) is out of reach in HS"),
+        ("hart 0 0 0;read 607", "hgeie (607) is out of reach in U"),
+        ("hart 1 1 0;write 144 0", "none"),
+        ("write 607 1", "none"),
     ]);
 }
 

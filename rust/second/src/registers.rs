@@ -1,11 +1,14 @@
-//! "Twenty-nine registers": their numbers, their stored bits and what a write stores.
+//! "Twenty-nine registers", and the twelve of change request 2026-01: their numbers, their stored bits and what a write stores.
 //!
-//! Twenty-seven of them are stored. sstatus is a view of mstatus, and hgeip is the constant 0.
+//! Thirty-one of the forty-one are stored. Eight are views: sstatus of mstatus, sie, hie and vsie of mie, sip, hip, hvip and vsip
+//! of mip. hgeie and hgeip are the constant 0.
 
-use crate::bits::{field, with_field};
+use crate::bits::{bit, field, with_field};
 
 /// sstatus, a view of mstatus.
 pub const SSTATUS: u64 = 0x100;
+/// sie, a view of mie.
+pub const SIE_REGISTER: u64 = 0x104;
 /// stvec.
 pub const STVEC: u64 = 0x105;
 /// sscratch.
@@ -16,10 +19,14 @@ pub const SEPC: u64 = 0x141;
 pub const SCAUSE: u64 = 0x142;
 /// stval.
 pub const STVAL: u64 = 0x143;
+/// sip, a view of mip.
+pub const SIP: u64 = 0x144;
 /// satp.
 pub const SATP: u64 = 0x180;
 /// vsstatus.
 pub const VSSTATUS: u64 = 0x200;
+/// vsie, a view of hie.
+pub const VSIE: u64 = 0x204;
 /// vstvec.
 pub const VSTVEC: u64 = 0x205;
 /// vsscratch.
@@ -30,12 +37,18 @@ pub const VSEPC: u64 = 0x241;
 pub const VSCAUSE: u64 = 0x242;
 /// vstval.
 pub const VSTVAL: u64 = 0x243;
+/// vsip, a view of hip.
+pub const VSIP: u64 = 0x244;
 /// vsatp.
 pub const VSATP: u64 = 0x280;
 /// mstatus.
 pub const MSTATUS: u64 = 0x300;
 /// medeleg.
 pub const MEDELEG: u64 = 0x302;
+/// mideleg.
+pub const MIDELEG: u64 = 0x303;
+/// mie.
+pub const MIE_REGISTER: u64 = 0x304;
 /// mtvec.
 pub const MTVEC: u64 = 0x305;
 /// mscratch.
@@ -46,6 +59,8 @@ pub const MEPC: u64 = 0x341;
 pub const MCAUSE: u64 = 0x342;
 /// mtval.
 pub const MTVAL: u64 = 0x343;
+/// mip.
+pub const MIP: u64 = 0x344;
 /// mtinst.
 pub const MTINST: u64 = 0x34a;
 /// mtval2.
@@ -54,8 +69,18 @@ pub const MTVAL2: u64 = 0x34b;
 pub const HSTATUS: u64 = 0x600;
 /// hedeleg.
 pub const HEDELEG: u64 = 0x602;
+/// hideleg.
+pub const HIDELEG: u64 = 0x603;
+/// hie, a view of mie.
+pub const HIE: u64 = 0x604;
+/// hgeie, 0.
+pub const HGEIE: u64 = 0x607;
 /// htval.
 pub const HTVAL: u64 = 0x643;
+/// hip, a view of mip.
+pub const HIP: u64 = 0x644;
+/// hvip, a view of mip.
+pub const HVIP: u64 = 0x645;
 /// htinst.
 pub const HTINST: u64 = 0x64a;
 /// hgatp.
@@ -143,6 +168,18 @@ const HSTATUS_STORED: u64 = (1 << HSTATUS_GVA)
 const HEDELEG_STORED: u64 = 0xb1ff;
 /// The stored bits of medeleg.
 const MEDELEG_STORED: u64 = 0xf0_b7ff;
+/// The supervisor's interrupts: software 1, timer 5, external 9. "1, 5 and 9 can be written" in mideleg.
+const SUPERVISOR_INTERRUPTS: u64 = (1 << 1) | (1 << 5) | (1 << 9);
+/// VS's interrupts: software 2, timer 6, external 10. "Bits 2, 6 and 10 of mideleg read one".
+const VS_INTERRUPTS: u64 = (1 << 2) | (1 << 6) | (1 << 10);
+/// The machine's interrupts: software 3, timer 7, external 11.
+const MACHINE_INTERRUPTS: u64 = (1 << 3) | (1 << 7) | (1 << 11);
+/// The nine interrupts, the bits of mie and mip.
+const INTERRUPTS: u64 = SUPERVISOR_INTERRUPTS | VS_INTERRUPTS | MACHINE_INTERRUPTS;
+/// VS's software interrupt, which mip, hip and vsip write too. VS's other two move through hvip only.
+const VS_SOFTWARE: u64 = 1 << 2;
+/// The supervisor's software interrupt, the one that sip writes.
+const SUPERVISOR_SOFTWARE: u64 = 1 << 1;
 /// "tvec: bit 1 cleared."
 const TVEC_STORED: u64 = !0b10;
 /// "epc: bits 1:0 cleared."
@@ -164,13 +201,13 @@ pub const SV39: u64 = 8;
 /// Whose register it is.
 #[derive(Clone, Copy, PartialEq, Eq, Debug)]
 pub enum Level {
-    /// One of S's seven.
+    /// One of S's nine.
     S,
-    /// One of VS's seven.
+    /// One of VS's nine.
     Vs,
-    /// One of H's six.
+    /// One of H's eleven.
     H,
-    /// One of M's nine.
+    /// One of M's twelve.
     M,
 }
 
@@ -185,10 +222,41 @@ pub struct Row {
     pub level: Level,
     /// Whether every write to it gives cause 2.
     pub read_only: bool,
-    /// The bits that a write can store.
+    /// The bits that it can hold or show as 0 and as 1.
     pub stored: u64,
     /// What all the other bits read as.
     pub constant: u64,
+    /// Whose bits it shows, where it has none of its own.
+    pub view: Option<View>,
+}
+
+/// A register that shows bits of another one, its home: for interrupts, "numbers and other bits are as the manual has them". The
+/// bits are given by their places in the home.
+#[derive(Clone, Copy, PartialEq, Eq, Debug)]
+pub struct View {
+    /// The stored register whose bits it shows.
+    pub home: u64,
+    /// The bits that it shows.
+    pub shown: u64,
+    /// The ones among them that it also writes.
+    pub written: u64,
+    /// The stored register that lets it show and write a bit only where it has that bit itself, if there is one.
+    pub gate: Option<u64>,
+    /// How many places lower it shows them.
+    pub down: u32,
+}
+
+impl View {
+    /// What it shows: the home's bits where the gate has them, else zero.
+    pub fn read(&self, home: u64, gate: u64) -> u64 {
+        (home & self.shown & gate) >> self.down
+    }
+
+    /// The home after a write through the view: a bit that the gate lacks is not written.
+    pub fn write(&self, home: u64, gate: u64, value: u64) -> u64 {
+        let written = self.written & gate;
+        (home & !written) | ((value << self.down) & written)
+    }
 }
 
 /// A row of a register that is not read-only.
@@ -200,24 +268,90 @@ const fn row(number: u64, name: &'static str, level: Level, stored: u64, constan
         read_only: false,
         stored,
         constant,
+        view: None,
     }
 }
 
-/// The twenty-nine registers, in rising order of number.
-pub const ROWS: [Row; 29] = [
-    row(SSTATUS, "sstatus", Level::S, SSTATUS_STORED, UXL_IS_2),
+/// A row of a view.
+const fn view(number: u64, name: &'static str, level: Level, constant: u64, view: View) -> Row {
+    Row {
+        view: Some(view),
+        ..row(number, name, level, view.shown >> view.down, constant)
+    }
+}
+
+/// "sstatus is mstatus's SIE, SPIE, SPP, SUM, MXR and UXL".
+const SSTATUS_VIEW: View = View {
+    home: MSTATUS,
+    shown: SSTATUS_STORED,
+    written: SSTATUS_STORED,
+    gate: None,
+    down: 0,
+};
+/// sie: mie's 1, 5 and 9 where mideleg has the bit.
+const SIE_VIEW: View = View {
+    home: MIE_REGISTER,
+    shown: SUPERVISOR_INTERRUPTS,
+    written: SUPERVISOR_INTERRUPTS,
+    gate: Some(MIDELEG),
+    down: 0,
+};
+/// sip: mip's 1, 5 and 9 where mideleg has the bit; 1 alone is written.
+const SIP_VIEW: View = View {
+    home: MIP,
+    written: SUPERVISOR_SOFTWARE,
+    ..SIE_VIEW
+};
+/// hie: mie's 2, 6 and 10.
+const HIE_VIEW: View = View {
+    home: MIE_REGISTER,
+    shown: VS_INTERRUPTS,
+    written: VS_INTERRUPTS,
+    gate: None,
+    down: 0,
+};
+/// hvip: mip's 2, 6 and 10.
+const HVIP_VIEW: View = View {
+    home: MIP,
+    ..HIE_VIEW
+};
+/// hip: mip's 2, 6 and 10; 2 alone is written.
+const HIP_VIEW: View = View {
+    written: VS_SOFTWARE,
+    ..HVIP_VIEW
+};
+/// vsie: hie's 2, 6 and 10, shown at 1, 5 and 9, where hideleg has the bit.
+const VSIE_VIEW: View = View {
+    gate: Some(HIDELEG),
+    down: 1,
+    ..HIE_VIEW
+};
+/// vsip: hip's 2, 6 and 10, shown at 1, 5 and 9, where hideleg has the bit; 2 alone is written.
+const VSIP_VIEW: View = View {
+    gate: Some(HIDELEG),
+    down: 1,
+    ..HIP_VIEW
+};
+
+/// The forty-one registers, in rising order of number.
+pub const ROWS: [Row; 41] = [
+    view(SSTATUS, "sstatus", Level::S, UXL_IS_2, SSTATUS_VIEW),
+    view(SIE_REGISTER, "sie", Level::S, 0, SIE_VIEW),
     row(STVEC, "stvec", Level::S, TVEC_STORED, 0),
     row(SSCRATCH, "sscratch", Level::S, ALL, 0),
     row(SEPC, "sepc", Level::S, EPC_STORED, 0),
     row(SCAUSE, "scause", Level::S, ALL, 0),
     row(STVAL, "stval", Level::S, ALL, 0),
+    view(SIP, "sip", Level::S, 0, SIP_VIEW),
     row(SATP, "satp", Level::S, ALL, 0),
     row(VSSTATUS, "vsstatus", Level::Vs, SSTATUS_STORED, UXL_IS_2),
+    view(VSIE, "vsie", Level::Vs, 0, VSIE_VIEW),
     row(VSTVEC, "vstvec", Level::Vs, TVEC_STORED, 0),
     row(VSSCRATCH, "vsscratch", Level::Vs, ALL, 0),
     row(VSEPC, "vsepc", Level::Vs, EPC_STORED, 0),
     row(VSCAUSE, "vscause", Level::Vs, ALL, 0),
     row(VSTVAL, "vstval", Level::Vs, ALL, 0),
+    view(VSIP, "vsip", Level::Vs, 0, VSIP_VIEW),
     row(VSATP, "vsatp", Level::Vs, ALL, 0),
     row(
         MSTATUS,
@@ -227,25 +361,35 @@ pub const ROWS: [Row; 29] = [
         UXL_IS_2 | SXL_IS_2,
     ),
     row(MEDELEG, "medeleg", Level::M, MEDELEG_STORED, 0),
+    row(
+        MIDELEG,
+        "mideleg",
+        Level::M,
+        SUPERVISOR_INTERRUPTS,
+        VS_INTERRUPTS,
+    ),
+    row(MIE_REGISTER, "mie", Level::M, INTERRUPTS, 0),
     row(MTVEC, "mtvec", Level::M, TVEC_STORED, 0),
     row(MSCRATCH, "mscratch", Level::M, ALL, 0),
     row(MEPC, "mepc", Level::M, EPC_STORED, 0),
     row(MCAUSE, "mcause", Level::M, ALL, 0),
     row(MTVAL, "mtval", Level::M, ALL, 0),
+    row(MIP, "mip", Level::M, INTERRUPTS, 0),
     row(MTINST, "mtinst", Level::M, ALL, 0),
     row(MTVAL2, "mtval2", Level::M, ALL, 0),
     row(HSTATUS, "hstatus", Level::H, HSTATUS_STORED, UXL_IS_2),
     row(HEDELEG, "hedeleg", Level::H, HEDELEG_STORED, 0),
+    row(HIDELEG, "hideleg", Level::H, VS_INTERRUPTS, 0),
+    view(HIE, "hie", Level::H, 0, HIE_VIEW),
+    row(HGEIE, "hgeie", Level::H, 0, 0),
     row(HTVAL, "htval", Level::H, ALL, 0),
+    view(HIP, "hip", Level::H, 0, HIP_VIEW),
+    view(HVIP, "hvip", Level::H, 0, HVIP_VIEW),
     row(HTINST, "htinst", Level::H, ALL, 0),
     row(HGATP, "hgatp", Level::H, HGATP_STORED, 0),
     Row {
-        number: HGEIP,
-        name: "hgeip",
-        level: Level::H,
         read_only: true,
-        stored: 0,
-        constant: 0,
+        ..row(HGEIP, "hgeip", Level::H, 0, 0)
     },
 ];
 
@@ -279,14 +423,13 @@ fn mode_is_allowed(atp: u64) -> bool {
     atp_mode(atp) == BARE || atp_mode(atp) == SV39
 }
 
-/// What the register of this row holds after `value` is written to it while it held `old`.
-///
-/// This is for registers that can be written; for sstatus, `old` and the result are the view.
+/// What the stored register of this row holds after `value` is written to it while it held `old`.
 pub fn after_write(row: &Row, old: u64, value: u64) -> u64 {
     match row.number {
         MSTATUS => mstatus_after_write(row, old, value),
         SATP | VSATP => atp_after_write(old, value),
         HGATP => hgatp_after_write(row, old, value),
+        MIP => mip_after_write(old, value),
         _ => masked(row, value),
     }
 }
@@ -323,6 +466,12 @@ fn hgatp_after_write(row: &Row, old: u64, value: u64) -> u64 {
     } else {
         with_field(written, MODE_LOW, MODE_WIDTH, atp_mode(old))
     }
+}
+
+/// "mip's bits 3, 7 and 11 come in with the hart, pass check 2 and can't be written"; 6 and 10 are hvip's. The rest is written.
+fn mip_after_write(old: u64, value: u64) -> u64 {
+    let written = SUPERVISOR_INTERRUPTS | VS_SOFTWARE;
+    (old & !written) | (value & written)
 }
 
 /// A field that can't hold every value.
@@ -401,6 +550,8 @@ pub enum Wrong {
     Field(&'static Field, u64),
     /// A bit that is always 0 is 1.
     Bit(u32),
+    /// A bit that is always 1 is 0.
+    ClearBit(u32),
 }
 
 impl Wrong {
@@ -408,7 +559,7 @@ impl Wrong {
     fn low(self) -> u32 {
         match self {
             Wrong::Field(field, _) => field.low,
-            Wrong::Bit(position) => position,
+            Wrong::Bit(position) | Wrong::ClearBit(position) => position,
         }
     }
 }
@@ -429,12 +580,19 @@ fn wrong_field(row: &Row, content: u64) -> Option<Wrong> {
     Some(Wrong::Field(field, holds))
 }
 
-/// The lowest bit outside the stored ones and these fields that is 1: "All other bits read 0."
+/// The lowest bit outside the stored ones and these fields that is not what it reads as: "All other bits read 0", and "Bits 2, 6
+/// and 10 of mideleg read one".
 fn wrong_bit(row: &Row, content: u64) -> Option<Wrong> {
     let fields = limited_fields(row).iter().map(Field::mask);
     let others = !fields.fold(row.stored, |bits, mask| bits | mask);
-    let lowest = (content & others).trailing_zeros();
-    (lowest < u64::BITS).then_some(Wrong::Bit(lowest))
+    let lowest = ((content ^ row.constant) & others).trailing_zeros();
+    if lowest == u64::BITS {
+        None
+    } else if bit(row.constant, lowest) {
+        Some(Wrong::ClearBit(lowest))
+    } else {
+        Some(Wrong::Bit(lowest))
+    }
 }
 
 #[cfg(test)]
@@ -453,9 +611,10 @@ mod tests {
     fn the_table_has_the_papers_numbers() {
         let numbers: Vec<u64> = ROWS.iter().map(|row| row.number).collect();
         let paper = [
-            0x100, 0x105, 0x140, 0x141, 0x142, 0x143, 0x180, 0x200, 0x205, 0x240, 0x241, 0x242,
-            0x243, 0x280, 0x300, 0x302, 0x305, 0x340, 0x341, 0x342, 0x343, 0x34a, 0x34b, 0x600,
-            0x602, 0x643, 0x64a, 0x680, 0xe12,
+            0x100, 0x104, 0x105, 0x140, 0x141, 0x142, 0x143, 0x144, 0x180, 0x200, 0x204, 0x205,
+            0x240, 0x241, 0x242, 0x243, 0x244, 0x280, 0x300, 0x302, 0x303, 0x304, 0x305, 0x340,
+            0x341, 0x342, 0x343, 0x344, 0x34a, 0x34b, 0x600, 0x602, 0x603, 0x604, 0x607, 0x643,
+            0x644, 0x645, 0x64a, 0x680, 0xe12,
         ];
         assert_eq!(numbers, paper);
         let count = |level| ROWS.iter().filter(|row| row.level == level).count();
@@ -466,7 +625,7 @@ mod tests {
                 count(Level::H),
                 count(Level::M)
             ],
-            [7, 7, 6, 9]
+            [9, 9, 11, 12]
         );
         let read_only: Vec<u64> = ROWS
             .iter()
@@ -474,6 +633,12 @@ mod tests {
             .map(|row| row.number)
             .collect();
         assert_eq!(read_only, [HGEIP]);
+        let views = ROWS.iter().filter(|row| row.view.is_some());
+        let views: Vec<&str> = views.map(|row| row.name).collect();
+        assert_eq!(
+            views,
+            ["sstatus", "sie", "sip", "vsie", "vsip", "hie", "hip", "hvip"]
+        );
         assert!(find(0xfff).is_none());
         assert!(find(0x1100).is_none());
     }
@@ -483,10 +648,56 @@ mod tests {
         assert_eq!(written(HEDELEG, 0, u64::MAX), 0xb1ff);
         assert_eq!(written(MEDELEG, 0, u64::MAX), 0xf0_b7ff);
         assert_eq!(written(HSTATUS, 0, u64::MAX), 0x2_0070_03c0);
-        assert_eq!(written(SSTATUS, 0, u64::MAX), 0x2_000c_0122);
         assert_eq!(written(VSSTATUS, 0, u64::MAX), 0x2_000c_0122);
         assert_eq!(written(MSTATUS, 0, u64::MAX), 0xca_007e_19aa);
         assert_eq!(written(HGATP, 0, u64::MAX), 0x03ff_ffff_ffff_fffc);
+    }
+
+    /// The request's four: mideleg holds 1, 5, 9 and always 2, 6, 10; mie all nine; a write to mip leaves 3, 6, 7, 10 and 11.
+    #[test]
+    fn all_ones_and_zero_written_to_the_registers_of_interrupts() {
+        assert_eq!(written(MIDELEG, 0x444, u64::MAX), 0x666);
+        assert_eq!(written(MIDELEG, 0x666, 0), 0x444);
+        assert_eq!(written(MIE_REGISTER, 0, u64::MAX), 0xeee);
+        assert_eq!(written(MIE_REGISTER, 0xeee, 0), 0);
+        assert_eq!(written(HIDELEG, 0, u64::MAX), 0x444);
+        assert_eq!(written(HIDELEG, 0x444, 0), 0);
+        assert_eq!(written(MIP, 0, u64::MAX), 0x226);
+        assert_eq!(written(MIP, 0xeee, 0), 0xcc8);
+        assert_eq!(written(MIP, 0xcc8, u64::MAX), 0xeee);
+    }
+
+    #[test]
+    fn views_show_and_write_their_bits_alone() {
+        let all = u64::MAX;
+        // The view, its gate, what it shows of all ones, and what all ones written to it leave in a home of all zeros.
+        for (number, gate, shown, left) in [
+            (SIE_REGISTER, 0x444, 0, 0),
+            (SIE_REGISTER, 0x464, 0x020, 0x020),
+            (SIE_REGISTER, 0x666, 0x222, 0x222),
+            (SIP, 0x444, 0, 0),
+            (SIP, 0x446, 0x002, 0x002),
+            (SIP, 0x664, 0x220, 0),
+            (SIP, 0x666, 0x222, 0x002),
+            (HIE, all, 0x444, 0x444),
+            (HIP, all, 0x444, 0x004),
+            (HVIP, all, 0x444, 0x444),
+            (VSIE, 0, 0, 0),
+            (VSIE, 0x400, 0x200, 0x400),
+            (VSIE, 0x444, 0x222, 0x444),
+            (VSIP, 0, 0, 0),
+            (VSIP, 0x004, 0x002, 0x004),
+            (VSIP, 0x440, 0x220, 0),
+            (VSIP, 0x444, 0x222, 0x004),
+            (SSTATUS, all, 0xc_0122, 0xc_0122),
+        ] {
+            let row = find(number).unwrap();
+            let view = row.view.unwrap();
+            assert_eq!(view.read(all, gate), shown, "{} {gate:x}", row.name);
+            assert_eq!(view.write(0, gate, all), left, "{} {gate:x}", row.name);
+            assert_eq!(view.write(all, gate, 0), !left, "{} {gate:x}", row.name);
+            assert_eq!(view.read(0, gate), 0);
+        }
     }
 
     #[test]
@@ -584,6 +795,7 @@ mod tests {
         let found = |number, content| match wrong(find(number).unwrap(), content) {
             Some(Wrong::Field(field, holds)) => format!("{} {holds:x}", field.name),
             Some(Wrong::Bit(position)) => format!("bit {position}"),
+            Some(Wrong::ClearBit(position)) => format!("no bit {position}"),
             None => "nothing".to_string(),
         };
         for (number, content, expected) in [
@@ -612,15 +824,38 @@ mod tests {
             (HEDELEG, u64::MAX, "bit 9"),
             (MEDELEG, !0xf0_b7ff, "bit 11"),
             (SSCRATCH, u64::MAX, "nothing"),
+            (MIDELEG, 0x666, "nothing"),
+            (MIDELEG, 0, "no bit 2"),
+            (MIDELEG, 0x404, "no bit 6"),
+            (MIDELEG, 0x044, "no bit 10"),
+            (MIDELEG, 0x440 | 1, "bit 0"),
+            (MIDELEG, 0x440 | 8, "no bit 2"),
+            (MIDELEG, 0x1444, "bit 12"),
+            (MIE_REGISTER, 0xeee, "nothing"),
+            (MIE_REGISTER, 0x1000, "bit 12"),
+            (MIP, 0xeee, "nothing"),
+            (MIP, 0xeef, "bit 0"),
+            (HIDELEG, 0x444, "nothing"),
+            (HIDELEG, 0x466, "bit 1"),
         ] {
             assert_eq!(found(number, content), expected, "{number:x} {content:x}");
         }
     }
 
-    /// A value could be stored exactly when writing it over itself leaves it: the two rules agree on every single-bit change.
+    /// "mip's bits 3, 7 and 11 come in with the hart, pass check 2": it holds nine bits, and a write can't make each of them.
+    #[test]
+    fn mip_holds_nine_bits() {
+        for position in 0..64 {
+            let one_of_nine = [1, 2, 3, 5, 6, 7, 9, 10, 11].contains(&position);
+            assert_eq!(storable(MIP, 1 << position), one_of_nine, "bit {position}");
+        }
+    }
+
+    /// A value could be stored exactly when writing it leaves it: the two rules agree on every single-bit change. (Of mip a write
+    /// leaves some bits as they came in.)
     #[test]
     fn what_could_be_stored_is_what_writing_it_leaves() {
-        for row in &ROWS {
+        for row in ROWS.iter().filter(|row| row.number != MIP) {
             for old in [0, u64::MAX, 0x1234_5678_9abc_def0] {
                 let held = after_write(row, masked(row, 0), old);
                 assert_eq!(wrong(row, held), None, "{} {held:x}", row.name);

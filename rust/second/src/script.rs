@@ -12,6 +12,7 @@ use crate::address::Machine;
 use crate::calls::{ebreak, ecall};
 use crate::hart::Hart;
 use crate::image::Image;
+use crate::interrupts::interrupt;
 use crate::lines::Lines;
 use crate::reasons::Reason;
 use crate::registers::ROWS;
@@ -97,6 +98,8 @@ pub enum Line {
     Trap(Trap),
     /// An instruction without operands.
     Instruction(Instruction),
+    /// `interrupt`
+    Interrupt,
     /// `show`
     Show,
 }
@@ -110,14 +113,14 @@ pub enum Answer {
     Translation(Box<Translation>),
     /// An access to a register.
     Register(Accessed),
-    /// A trap request or an instruction.
+    /// A trap request, an instruction or an interrupt.
     Event(Outcome),
     /// `show`
     Hart(Hart),
 }
 
 impl Answer {
-    /// Why it is a refusal, a fault, or a trap by a rule.
+    /// Why it is a refusal, a fault, or a trap by a rule, and what came of an interrupt.
     pub fn reason(&self) -> Option<Reason> {
         match self {
             Answer::Nothing | Answer::Hart(_) => None,
@@ -279,6 +282,10 @@ pub fn parse(line: &[u8]) -> Result<Option<Line>, Bad> {
         b"sfence.vma" => parse_instruction(Instruction::SfenceVma, rest)?,
         b"hfence.vvma" => parse_instruction(Instruction::HfenceVvma, rest)?,
         b"hfence.gvma" => parse_instruction(Instruction::HfenceGvma, rest)?,
+        b"interrupt" => {
+            let [] = numbers(rest)?;
+            Line::Interrupt
+        }
         b"show" => {
             let [] = numbers(rest)?;
             Line::Show
@@ -389,6 +396,7 @@ impl Session {
                 let outcome = perform_instruction(&self.hart, *instruction);
                 Ok(self.hand_on(outcome))
             }
+            Line::Interrupt => Ok(self.hand_on(interrupt(&self.hart))),
             Line::Show => Ok(Answer::Hart(self.hart)),
         }
     }

@@ -50,8 +50,8 @@ fn an_empty_script() {
 #[test]
 fn the_first_hart_and_show() {
     let shown = "hart 0 3 0\nreg 105 0\nreg 140 0\nreg 141 0\nreg 142 0\nreg 143 0\nreg 180 0\nreg 200 200000000\n\
-        reg 205 0\nreg 240 0\nreg 241 0\nreg 242 0\nreg 243 0\nreg 280 0\nreg 300 a00000000\nreg 302 0\nreg 305 0\n\
-        reg 340 0\nreg 341 0\nreg 342 0\nreg 343 0\nreg 34a 0\nreg 34b 0\nreg 600 200000000\nreg 602 0\nreg 643 0\n\
+        reg 205 0\nreg 240 0\nreg 241 0\nreg 242 0\nreg 243 0\nreg 280 0\nreg 300 a00000000\nreg 302 0\nreg 303 444\nreg 304 0\nreg 305 0\n\
+        reg 340 0\nreg 341 0\nreg 342 0\nreg 343 0\nreg 344 0\nreg 34a 0\nreg 34b 0\nreg 600 200000000\nreg 602 0\nreg 603 0\nreg 643 0\n\
         reg 64a 0\nreg 680 0\n";
     assert_eq!(good("show"), shown);
     // What show writes is itself a script.
@@ -163,6 +163,9 @@ fn bad_lines() {
         b"sfence",
         b"hfence.vvma 0",
         b"hfence.gvma 0",
+        b"interrupt 0",
+        b"interrupts",
+        b"Interrupt",
         b"show 0",
         b"image 0",
         b"image 0 0 0",
@@ -173,6 +176,14 @@ fn bad_lines() {
         b"reg 300",
         b"reg 300 0 0",
         b"reg 100 0",
+        b"reg 104 0",
+        b"reg 144 0",
+        b"reg 204 0",
+        b"reg 244 0",
+        b"reg 604 0",
+        b"reg 607 0",
+        b"reg 644 0",
+        b"reg 645 0",
         b"reg e12 0",
         b"reg 0 0",
         b"reg fff 0",
@@ -301,6 +312,25 @@ fn answers() {
         "ok\nok\nok\nvalue 0\n"
     );
     assert_eq!(good("read fff\nread 1000"), "value 0\nrefused 5\n");
+}
+
+#[test]
+fn an_interrupt_answers_ok_or_refused_2() {
+    // None is due: the hart stays as it was, pc too.
+    let before = good("hart 1 1 40\nshow");
+    let after = good("hart 1 1 40\ninterrupt\nshow");
+    assert_eq!(after, format!("ok\n{before}"));
+    // One is taken.
+    assert_eq!(
+        good("hart 1 1 40\nreg 305 1000\nreg 304 80\nreg 344 80\ninterrupt\nread 342\nread 341\nread 344"),
+        "ok\nvalue 8000000000000007\nvalue 40\nvalue 80\n"
+    );
+    // The hart is refused.
+    let refused = good("hart 0 3 2\nshow");
+    assert_eq!(
+        good("hart 0 3 2\ninterrupt\nshow"),
+        format!("refused 2\n{refused}")
+    );
 }
 
 #[test]

@@ -1,4 +1,4 @@
-//! How events end, trap requests (refusal 4) and "Delivery".
+//! How events end, trap requests (refusal 4) and "Delivery" of traps and interrupts.
 
 use crate::bits::{bit, with_bit};
 use crate::hart::{BadHart, Hart, Mode};
@@ -15,8 +15,10 @@ pub const ILLEGAL_INSTRUCTION: u64 = 2;
 pub const BREAKPOINT: u64 = 3;
 /// Cause 22, virtual instruction.
 pub const VIRTUAL_INSTRUCTION: u64 = 22;
+/// The interrupt bit of a cause.
+pub const INTERRUPT_BIT: u64 = 1 << 63;
 
-/// A trap: a request for one, or the fault that a translation answers.
+/// A trap: a request for one, the fault that a translation answers, or an interrupt that is taken.
 #[derive(Clone, Copy, PartialEq, Eq, Debug, Default)]
 pub struct Trap {
     /// The cause.
@@ -32,8 +34,8 @@ pub struct Trap {
 }
 
 impl Trap {
-    /// A trap raised by the model with value 0, second value and word 0 and the flag clear: the environment calls, and
-    /// "Causes 2 and 22 raised by the model have value 0".
+    /// A trap raised by the model with value 0, second value and word 0 and the flag clear: the environment calls, "Causes 2 and
+    /// 22 raised by the model have value 0", and interrupts, "with value, second value, word and flag 0".
     pub fn plain(cause: u64) -> Trap {
         Trap {
             cause,
@@ -42,7 +44,7 @@ impl Trap {
     }
 }
 
-/// The mode that a trap is delivered to.
+/// The mode that a trap or an interrupt is delivered to, from the highest level down.
 #[derive(Clone, Copy, PartialEq, Eq, Debug, PartialOrd, Ord)]
 pub enum Target {
     /// To M.
@@ -147,7 +149,7 @@ pub struct Outcome {
     pub hart: Hart,
     /// How the event ended.
     pub ending: Ending,
-    /// Why it was refused, or trapped by a rule.
+    /// Why it was refused, or trapped by a rule, or what came of an interrupt.
     pub reason: Option<Reason>,
 }
 
@@ -300,12 +302,16 @@ fn flag_wrong(mode: Mode, trap: &Trap) -> Option<BadRequest> {
 /// "Delivery": the hart after the trap, and where it went.
 pub fn deliver(hart: &Hart, mode: Mode, trap: &Trap) -> (Hart, Target) {
     let target = target(hart, mode, trap.cause);
-    let after = match target {
+    (deliver_to(target, hart, mode, trap), target)
+}
+
+/// The hart after a trap or an interrupt into this target.
+pub fn deliver_to(target: Target, hart: &Hart, mode: Mode, trap: &Trap) -> Hart {
+    match target {
         Target::M => deliver_to_m(hart, mode, trap),
         Target::Hs => deliver_to_hs(hart, mode, trap),
         Target::Vs => deliver_to_vs(hart, mode, trap),
-    };
-    (after, target)
+    }
 }
 
 /// "from M to M. Otherwise to M if medeleg's bit for the cause is 0; else to VS if V=1 and hedeleg's bit is 1; else to HS."
@@ -327,9 +333,17 @@ fn delegates(edeleg: u64, cause: u64) -> bool {
     }
 }
 
-/// "pc becomes the target's tvec without bits 1:0."
-fn entry_point(tvec: u64) -> u64 {
-    tvec & !0b11
+/// "pc becomes the target's tvec without bits 1:0." "Vectored tvec now adds 4 times the written cause, wrapping, for interrupts
+/// only."
+fn entry_point(tvec: u64, cause: u64) -> u64 {
+    let base = tvec & !0b11;
+    let vectored = bit(tvec, 0);
+    let interrupt = cause & INTERRUPT_BIT != 0;
+    if vectored && interrupt {
+        base.wrapping_add((cause & !INTERRUPT_BIT).wrapping_mul(4))
+    } else {
+        base
+    }
 }
 
 /// "M: MPV, MPP = former V and privilege (0, 1, 3); MPIE=MIE, MIE=0; GVA, mepc, mcause, mtval, mtval2, mtinst written."
@@ -345,7 +359,7 @@ fn deliver_to_m(hart: &Hart, mode: Mode, trap: &Trap) -> Hart {
     after.mtval = trap.value;
     after.mtval2 = trap.second;
     after.mtinst = trap.word;
-    after.pc = entry_point(hart.mtvec);
+    after.pc = entry_point(hart.mtvec, trap.cause);
     after.in_mode(Mode::M)
 }
 
@@ -367,7 +381,7 @@ fn deliver_to_hs(hart: &Hart, mode: Mode, trap: &Trap) -> Hart {
     after.stval = trap.value;
     after.htval = trap.second;
     after.htinst = trap.word;
-    after.pc = entry_point(hart.stvec);
+    after.pc = entry_point(hart.stvec, trap.cause);
     after.in_mode(Mode::Hs)
 }
 
@@ -380,7 +394,7 @@ fn deliver_to_vs(hart: &Hart, mode: Mode, trap: &Trap) -> Hart {
     after.vsepc = hart.pc;
     after.vscause = trap.cause;
     after.vstval = trap.value;
-    after.pc = entry_point(hart.vstvec);
+    after.pc = entry_point(hart.vstvec, trap.cause);
     after.in_mode(Mode::Vs)
 }
 
@@ -447,6 +461,33 @@ mod tests {
                     known && arises_from(mode, cause),
                     "{mode:?} cause {cause}"
                 );
+            }
+        }
+    }
+
+    /// "refusal 4 stays for exceptions and interrupts come only from pending bits": no request is an interrupt.
+    #[test]
+    fn refusal_4_by_the_interrupt_bit() {
+        for mode in Mode::ALL {
+            for number in 0..64 {
+                assert!(!taken(mode, Trap::plain((1 << 63) + number)));
+            }
+        }
+    }
+
+    /// "Vectored tvec now adds 4 times the written cause, wrapping, for interrupts only": exceptions go to the base, whatever
+    /// bit 0 is.
+    #[test]
+    fn an_exception_is_not_vectored() {
+        for mode in [Mode::U, Mode::Hs, Mode::Vu, Mode::Vs] {
+            for cause in CAUSES.into_iter().filter(|cause| arises_from(mode, *cause)) {
+                for (medeleg, hedeleg) in [(0, 0), (u64::MAX, 0), (u64::MAX, u64::MAX)] {
+                    let mut before = hart(mode);
+                    [before.medeleg, before.hedeleg] = [medeleg & 0xf0_b7ff, hedeleg & 0xb1ff];
+                    [before.mtvec, before.stvec, before.vstvec] = [0x3001; 3];
+                    let after = request(&before, &fitting(mode, cause)).hart;
+                    assert_eq!(after.pc, 0x3000, "{mode:?} {cause}");
+                }
             }
         }
     }

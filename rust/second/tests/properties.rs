@@ -5,10 +5,11 @@ use second::address::Machine;
 use second::calls::{ebreak, ecall};
 use second::hart::{Hart, Mode};
 use second::image::Image;
+use second::interrupts::{interrupt, Why};
 use second::reasons::Reason;
 use second::registers::{after_write, ROWS};
 use second::returns::{mret, sret};
-use second::trap::{request, Ending, Outcome, Trap};
+use second::trap::{request, Ending, Outcome, Target, Trap};
 use second::waits::{hfence_gvma, hfence_vvma, sfence_vma, wfi};
 use second::walk::{translate, Access, Answer, Kind, List, Read};
 
@@ -49,6 +50,8 @@ fn legal_hart(random: &mut Random) -> Hart {
             *place = after_write(row, *place, value);
         }
     }
+    // All nine bits of mip come in with a hart, also those that no write makes.
+    hart.mip = random.number() & 0xeee;
     if mode != Mode::M {
         hart.mstatus &= !(1 << 17);
     }
@@ -68,7 +71,8 @@ fn any_hart(random: &mut Random) -> Hart {
     hart
 }
 
-/// A refusal has a reason of its number, a trap with cause 2 or 22 a rule, and what was done has none.
+/// A refusal has a reason of its number, a trap with cause 2 or 22 a rule, an interrupt which one was taken or why none, and what
+/// was done has none.
 fn check_reason(outcome: &Outcome) {
     match (outcome.ending, outcome.reason) {
         (Ending::Refused(number), Some(Reason::Refused(refusal))) => {
@@ -77,6 +81,13 @@ fn check_reason(outcome: &Outcome) {
         (Ending::Trapped(trap, _), Some(Reason::Forbidden(_))) => {
             assert!(matches!(trap.cause, 2 | 22));
         }
+        (Ending::Trapped(trap, target), Some(Reason::Interrupt(Why::Taken(due)))) => {
+            // 10, 2 and 6 are written one lower into VS.
+            let lower = u64::from(target == Target::Vs);
+            let cause = (1 << 63) + u64::from(due.number) - lower;
+            assert_eq!((trap, target), (Trap::plain(cause), due.level));
+        }
+        (Ending::Done, Some(Reason::Interrupt(why))) => assert!(!matches!(why, Why::Taken(_))),
         (Ending::Trapped(..) | Ending::Done, None) => {}
         other => panic!("{other:?}"),
     }
@@ -94,6 +105,7 @@ fn outcomes(random: &mut Random, hart: &Hart) -> Vec<Outcome> {
         sfence_vma,
         hfence_vvma,
         hfence_gvma,
+        interrupt,
     ] {
         outcomes.push(event(hart));
     }
@@ -119,7 +131,7 @@ fn outcomes(random: &mut Random, hart: &Hart) -> Vec<Outcome> {
     for _ in 0..12 {
         let number = match random.below(4) {
             0 => random.number(),
-            _ => ROWS[random.below(29) as usize].number,
+            _ => ROWS[random.below(ROWS.len() as u64) as usize].number,
         };
         let value = random.number();
         let writes = random.below(2) == 1;
@@ -174,6 +186,59 @@ fn a_hart_that_fails_check_2_is_refused_everywhere() {
             assert_eq!(outcome.ending, Ending::Refused(2));
             assert_eq!(outcome.hart, hart);
         }
+    }
+}
+
+/// A hart whose interrupts are pending, enabled and delegated as random bits say.
+fn interrupted_hart(random: &mut Random) -> Hart {
+    let mut hart = legal_hart(random);
+    hart.mip = random.bits() & random.bits() & 0xeee;
+    hart.mie = random.bits() & 0xeee;
+    hart.mideleg = (random.bits() & 0x222) | 0x444;
+    hart.hideleg = random.bits() & 0x444;
+    hart
+}
+
+/// An interrupt that is taken is pending, enabled and goes to its level; it leaves mie, mip and the delegation as they are, and so
+/// does the event where none is due, which leaves the whole hart.
+#[test]
+fn an_interrupt_changes_nothing_that_decides_it() {
+    let mut random = Random(0x1234_5678);
+    let mut taken = [0; 12];
+    for _ in 0..20_000 {
+        let hart = interrupted_hart(&mut random);
+        let mode = hart.checked_mode().unwrap();
+        let outcome = interrupt(&hart);
+        check_reason(&outcome);
+        let after = outcome.hart;
+        let held = |hart: &Hart| [hart.mip, hart.mie, hart.mideleg, hart.hideleg];
+        assert_eq!(held(&after), held(&hart));
+        let Some(Reason::Interrupt(Why::Taken(due))) = outcome.reason else {
+            assert_eq!(after, hart, "none is due");
+            continue;
+        };
+        taken[due.number as usize] += 1;
+        let one = 1 << due.number;
+        assert_ne!(hart.mip & hart.mie & one, 0);
+        let (expected, saved, own) = match due.level {
+            Target::M => (Mode::M, after.mepc, hart.mideleg & one == 0),
+            Target::Hs => (
+                Mode::Hs,
+                after.sepc,
+                hart.mideleg & !hart.hideleg & one != 0,
+            ),
+            Target::Vs => (Mode::Vs, after.vsepc, hart.hideleg & one != 0),
+        };
+        assert!(own);
+        assert_eq!((after.checked_mode(), saved), (Some(expected), hart.pc));
+        // Never into a level below the mode.
+        assert!(mode != Mode::M || due.level == Target::M);
+        assert!(mode.v() || due.level != Target::Vs);
+        // After it none is due: the level's own bit is 0, and one of a higher level would have come first.
+        assert_eq!(interrupt(&after).hart, after);
+    }
+    for number in [1, 2, 3, 5, 6, 7, 9, 10, 11] {
+        assert!(taken[number] > 100, "{number}: {taken:?}");
     }
 }
 

@@ -329,6 +329,15 @@ fn code_with_room<const N: usize>() -> u64 {
     unsafe { balcumentri_ecall(hart.as_ptr(), hart.len(), out.as_mut_ptr(), out.len()) }
 }
 
+/// What a hart in U with a machine timer interrupt, pending and enabled, comes to.
+fn interrupted() -> StepWords {
+    let mut hart = reset(0, 0, 0);
+    for register in [0x304, 0x344] {
+        hart[3 + place(register)] = 1 << 7;
+    }
+    interrupt(&hart)
+}
+
 /// The kind of access whose access fault has the cause.
 fn kind_with(cause: u64) -> u64 {
     let faults = |kind: &u64| translated(*kind, OUTSIDE, 4).2 == cause;
@@ -358,6 +367,7 @@ fn header_defines_what_the_calls_answer() {
         ("ADDRESS", translated(0, 0, 4).1),
         ("FAULT", translated(0, OUTSIDE, 4).1),
         ("REFUSED", refused),
+        ("INTERRUPTED", came_to(interrupted())),
         ("FETCH", kind_with(1)),
         ("LOAD", kind_with(5)),
         ("STORE", kind_with(7)),

@@ -3,7 +3,7 @@
 use crate::scribe::Scribe;
 
 /// Lines that are bad whatever the image is.
-const ALWAYS_BAD: [&[u8]; 88] = [
+const ALWAYS_BAD: [&[u8]; 102] = [
     b"nonsense",
     b"Load 0 8",
     b"LOAD 0 8",
@@ -62,6 +62,11 @@ const ALWAYS_BAD: [&[u8]; 88] = [
     b"hfence.vvma 0",
     b"hfence.gvma 0",
     b"hfence",
+    b"interrupt 0",
+    b"interrupt x",
+    b"interrupt interrupt",
+    b"interrupts",
+    b"Interrupt",
     b"show 0",
     b"show show",
     b"image",
@@ -77,6 +82,15 @@ const ALWAYS_BAD: [&[u8]; 88] = [
     b"reg 300",
     b"reg 300 0 0",
     b"reg 100 0",
+    b"reg 104 0",
+    b"reg 144 0",
+    b"reg 204 0",
+    b"reg 244 0",
+    b"reg 604 0",
+    b"reg 607 0",
+    b"reg 644 0",
+    b"reg 645 444",
+    b"reg 1303 444",
     b"reg e12 0",
     b"reg 0 0",
     b"reg fff 0",
@@ -110,7 +124,7 @@ const BYTES: [&[u8]; 12] = [
     b"load\xc2\xa00 8",
 ];
 
-/// Ends a script with a bad line and some lines after it, which must not be answered.
+/// Ends a script with a bad line.
 pub fn end_badly(scribe: &mut Scribe) {
     let line = match scribe.rng.below(10) {
         0 => scribe.rng.pick(&BYTES).to_vec(),
@@ -118,6 +132,21 @@ pub fn end_badly(scribe: &mut Scribe) {
         3 => random_bytes(scribe),
         _ => scribe.rng.pick(&ALWAYS_BAD).to_vec(),
     };
+    end_with(scribe, line);
+}
+
+/// Ends two scripts of three with the lines that are always bad, one after the other by the script's place, and the third with
+/// any bad line.
+pub fn end_in_turn(scribe: &mut Scribe, place: u64) {
+    if place % 3 == 2 {
+        return end_badly(scribe);
+    }
+    let turn = (place / 3 * 2 + place % 3) as usize;
+    end_with(scribe, ALWAYS_BAD[turn % ALWAYS_BAD.len()].to_vec());
+}
+
+/// Ends a script with this line and some after it, which must not be answered.
+fn end_with(scribe: &mut Scribe, line: Vec<u8>) {
     scribe.lines.push(line);
     for line in [&b"show"[..], b"load 0 8", b"nonsense"] {
         if scribe.rng.chance(50) {
@@ -173,6 +202,20 @@ mod tests {
                 run_line(model, &mut scribe.session, line).is_err(),
                 "{text}"
             );
+        }
+    }
+
+    #[test]
+    fn in_turn_all_of_them_come() {
+        let folder = Folder::new().unwrap();
+        let ends = (0..ALWAYS_BAD.len() as u64 * 3 / 2).map(|place| {
+            let mut scribe = Scribe::new(1, folder.path().to_path_buf());
+            end_in_turn(&mut scribe, place);
+            scribe.lines.swap_remove(0)
+        });
+        let ends: Vec<Vec<u8>> = ends.collect();
+        for line in ALWAYS_BAD {
+            assert!(ends.iter().any(|end| end == line));
         }
     }
 

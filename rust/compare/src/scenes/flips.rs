@@ -5,7 +5,7 @@ use second::registers::{with_mpp, MPRV, MPV, ROWS};
 use second::walk::{translate, Access, Answer, Kind};
 
 use crate::coverage::{words, Meeting};
-use crate::scenes::traps::INSTRUCTIONS;
+use crate::scenes::traps::BARE_EVENTS;
 use crate::scenes::walks::{choose_page, text};
 use crate::scribe::Scribe;
 use crate::tables::Tables;
@@ -75,13 +75,14 @@ fn good_access(scribe: &mut Scribe, tables: &Tables, mode: Mode) -> Access {
 fn event(scribe: &mut Scribe) -> String {
     let number = scribe.rng.pick(&ROWS).number;
     let value = scribe.rng.number();
-    match scribe.rng.below(6) {
+    match scribe.rng.below(7) {
         0 => format!("read {number:x}"),
         1 => format!("write {number:x} {value:x}"),
         2 => format!("set {number:x} {value:x} 1"),
         3 => format!("clear {number:x} {value:x} 1"),
         4 => "trap 3 0 0 0 1".to_string(),
-        _ => scribe.rng.pick(&INSTRUCTIONS).to_string(),
+        5 => "interrupt".to_string(),
+        _ => scribe.rng.pick(&BARE_EVENTS).to_string(),
     }
 }
 

@@ -1,15 +1,17 @@
-//! Many events of one hart in a row: out of M, through the other modes, and back by traps.
+//! Many events of one hart in a row: out of M, through the other modes, and back by traps and interrupts.
 
 use second::hart::Mode;
 use second::registers::ROWS;
 
+use crate::coverage::bits::REGISTERS;
+use crate::scenes::interrupts::pending_hart;
 use crate::scenes::registers::access;
-use crate::scenes::traps::{choose_cause, choose_trap, request, trapping_hart, INSTRUCTIONS};
+use crate::scenes::traps::{choose_cause, choose_trap, request, BARE_EVENTS};
 use crate::scribe::Scribe;
 
 /// A journey.
 pub fn journey(scribe: &mut Scribe) {
-    let hart = trapping_hart(scribe, Mode::M);
+    let hart = pending_hart(scribe, Mode::M);
     scribe.whole_hart(&hart);
     for _ in 0..30 {
         let Some(mode) = scribe.session.hart.checked_mode() else {
@@ -23,7 +25,7 @@ pub fn journey(scribe: &mut Scribe) {
 
 /// One event: the higher the mode, the more often something that leaves it.
 fn step(scribe: &mut Scribe, mode: Mode) {
-    match scribe.rng.below(10) {
+    match scribe.rng.below(12) {
         0 | 1 => {
             let number = scribe.rng.pick(&ROWS).number;
             access(scribe, number);
@@ -46,8 +48,15 @@ fn step(scribe: &mut Scribe, mode: Mode) {
             };
             scribe.line(back);
         }
+        7 => {
+            let number = scribe.rng.pick(&REGISTERS).number;
+            access(scribe, number);
+        }
+        8 => {
+            scribe.line("interrupt");
+        }
         _ => {
-            let word = scribe.rng.pick(&INSTRUCTIONS);
+            let word = scribe.rng.pick(&BARE_EVENTS);
             scribe.line(word);
         }
     }

@@ -4,7 +4,8 @@ use second::bits::with_field;
 use second::hart::{Hart, Mode};
 use second::registers::{self, MPRV, ROWS};
 
-use crate::scenes::traps::INSTRUCTIONS;
+use crate::scenes::interrupts::pending_hart;
+use crate::scenes::traps::BARE_EVENTS;
 use crate::scribe::Scribe;
 
 /// Events in which the hart, the image and the event's own numbers are good or bad, in all combinations.
@@ -131,7 +132,7 @@ fn event(scribe: &mut Scribe, bad: bool) {
             scribe.rng.number(),
             scribe.rng.below(2)
         ),
-        _ => scribe.rng.pick(&INSTRUCTIONS).to_string(),
+        _ => scribe.rng.pick(&BARE_EVENTS).to_string(),
     };
     scribe.line(&text);
 }
@@ -172,8 +173,9 @@ fn translation(scribe: &mut Scribe, bad: bool) -> String {
     }
 }
 
-/// The fields that can't hold every value: the register, the lowest bit, the width.
-const FIELDS: [(u64, u32, u32); 16] = [
+/// The fields that can't hold every value, and the bits around those that the registers of interrupts hold: the register, the
+/// lowest bit, the width.
+const FIELDS: [(u64, u32, u32); 28] = [
     (registers::MSTATUS, 32, 2),
     (registers::MSTATUS, 34, 2),
     (registers::MSTATUS, 11, 2),
@@ -190,6 +192,18 @@ const FIELDS: [(u64, u32, u32); 16] = [
     (registers::SEPC, 0, 2),
     (registers::VSEPC, 0, 2),
     (registers::MEPC, 0, 2),
+    (registers::MIDELEG, 0, 4),
+    (registers::MIDELEG, 4, 4),
+    (registers::MIDELEG, 8, 5),
+    (registers::MIE_REGISTER, 0, 4),
+    (registers::MIE_REGISTER, 4, 4),
+    (registers::MIE_REGISTER, 8, 5),
+    (registers::MIP, 0, 4),
+    (registers::MIP, 4, 4),
+    (registers::MIP, 8, 5),
+    (registers::HIDELEG, 0, 4),
+    (registers::HIDELEG, 4, 4),
+    (registers::HIDELEG, 8, 5),
 ];
 
 /// Every value of every field that can't hold all of them.
@@ -204,11 +218,43 @@ pub fn fields(scribe: &mut Scribe) {
             _ => scribe.session.hart.stored(number).unwrap_or(0),
         };
         scribe.reg(number, with_field(old, low, width, value));
-        let word = scribe
-            .rng
-            .pick(&["wfi", "ebreak", "read 340", "load 0 1", "trap 3 0 0 0 1"]);
+        let word = scribe.rng.pick(&SIMPLE_EVENTS);
         scribe.line(word);
         scribe.show_sometimes(30);
+    }
+}
+
+/// Events with numbers that no call refuses.
+const SIMPLE_EVENTS: [&str; 6] = [
+    "wfi",
+    "ebreak",
+    "interrupt",
+    "read 340",
+    "load 0 1",
+    "trap 3 0 0 0 1",
+];
+
+/// Each bit of a register of interrupts flipped: most are always 0, and bits 2, 6 and 10 of mideleg always 1.
+pub fn interrupt_bits(scribe: &mut Scribe) {
+    let number = scribe.rng.pick(&[
+        registers::MIDELEG,
+        registers::MIE_REGISTER,
+        registers::MIP,
+        registers::HIDELEG,
+    ]);
+    let mode = scribe.mode();
+    let hart = pending_hart(scribe, mode);
+    scribe.whole_hart(&hart);
+    let content = hart.stored(number).unwrap_or(0);
+    for bit in 0..64 {
+        scribe.reg(number, content ^ (1 << bit));
+        let word = scribe.rng.pick(&SIMPLE_EVENTS);
+        scribe.line(word);
+        if scribe.session.hart.checked_mode().is_some() {
+            // It passed, and may have gone elsewhere.
+            scribe.show();
+            scribe.whole_hart(&hart);
+        }
     }
 }
 
@@ -225,7 +271,7 @@ pub fn modes_and_pcs(scribe: &mut Scribe) {
             .rng
             .pick(&[0, 1, 2, 3, 4, u64::MAX, u64::MAX - 3, 1 << 63]);
         scribe.line(&format!("hart {v:x} {privilege:x} {pc:x}"));
-        let word = scribe.rng.pick(&INSTRUCTIONS);
+        let word = scribe.rng.pick(&BARE_EVENTS);
         scribe.line(word);
         scribe.show();
     }
@@ -259,7 +305,7 @@ pub fn mprv_everywhere(scribe: &mut Scribe) {
     for mode in Mode::ALL {
         scribe.hart(mode, 0);
         scribe.reg(registers::MSTATUS, 0xa_0002_0000);
-        let word = scribe.rng.pick(&INSTRUCTIONS);
+        let word = scribe.rng.pick(&BARE_EVENTS);
         scribe.line(word);
         scribe.show();
     }

@@ -45,8 +45,9 @@ pub fn numbers_in_turn(scribe: &mut Scribe, start: u64) {
 pub fn registers_in_turn(scribe: &mut Scribe, start: u64) {
     for step in 0..20 {
         let place = start + step;
-        let row = &ROWS[(place % 29) as usize];
-        let mode = Mode::ALL[((place / 29) % 5) as usize];
+        let rows = ROWS.len() as u64;
+        let row = &ROWS[(place % rows) as usize];
+        let mode = Mode::ALL[((place / rows) % 5) as usize];
         let mut hart = scribe.legal_hart(mode);
         // Mostly without the bits that make accesses trap.
         if scribe.rng.chance(70) {

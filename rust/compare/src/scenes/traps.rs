@@ -4,10 +4,11 @@ use second::hart::{Hart, Mode};
 use second::registers::{with_mpp, MPRV};
 use second::trap::Trap;
 
+use crate::scenes::interrupts::make_pending;
 use crate::scribe::Scribe;
 
-/// The instructions without operands.
-pub const INSTRUCTIONS: [&str; 8] = [
+/// The events without numbers.
+pub const BARE_EVENTS: [&str; 9] = [
     "ecall",
     "ebreak",
     "mret",
@@ -16,6 +17,7 @@ pub const INSTRUCTIONS: [&str; 8] = [
     "sfence.vma",
     "hfence.vvma",
     "hfence.gvma",
+    "interrupt",
 ];
 
 /// A hart with the registers that traps and returns look at filled.
@@ -41,6 +43,9 @@ pub fn trapping_hart(scribe: &mut Scribe, mode: Mode) -> Hart {
     hart.vsstatus |= scribe.rng.bits() & 0xc_0122;
     if mode != Mode::M {
         hart.mstatus &= !(1 << MPRV);
+    }
+    if scribe.rng.chance(20) {
+        make_pending(scribe, &mut hart);
     }
     hart
 }
@@ -84,6 +89,8 @@ pub fn choose_cause(scribe: &mut Scribe) -> u64 {
         0 => 14 + scribe.rng.below(6),
         1 => scribe.rng.below(80),
         2 => scribe.rng.number(),
+        // An interrupt's can't be asked for.
+        3 => (1 << 63) + scribe.rng.below(16),
         _ => scribe.rng.pick(&crate::coverage::CAUSES),
     }
 }
@@ -159,17 +166,17 @@ pub fn wrong_requests(scribe: &mut Scribe) {
     }
 }
 
-/// Environment calls, breakpoints, returns, waits and fences.
+/// Environment calls, breakpoints, returns, waits, fences and interrupts.
 pub fn instructions(scribe: &mut Scribe) {
     for _ in 0..10 {
         let mode = scribe.mode();
         let hart = trapping_hart(scribe, mode);
         scribe.whole_hart(&hart);
-        let word = scribe.rng.pick(&INSTRUCTIONS);
+        let word = scribe.rng.pick(&BARE_EVENTS);
         scribe.line(word);
         scribe.show();
         if scribe.rng.chance(30) {
-            let word = scribe.rng.pick(&INSTRUCTIONS);
+            let word = scribe.rng.pick(&BARE_EVENTS);
             scribe.line(word);
             scribe.show_sometimes(70);
         }
