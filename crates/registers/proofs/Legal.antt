@@ -9,7 +9,7 @@ use lib.Bits.{bitAnd, bitOr, and-zero-r, or-zero-r, and-comm, and-mask}
 use lib.Dec.{eqb}
 use borrow.Author.Tests.{eqb-true, eq-eqb}
 use Rattle.bits.specs.declared.Field.{Field}
-use Rattle.bits.specs.Field.{top, get, put, copy}
+use Rattle.bits.specs.Field.{Fits, top, get, put, copy}
 use Rattle.bits.specs.Assign.{Assignment, _after_}
 use Rattle.bits.proofs.Bools.{and-left, and-right, both, split, or-cases, pick-both}
 use Rattle.bits.proofs.Masks.{and-or, and-assoc}
@@ -97,6 +97,11 @@ module _ (r : Rule) (t : sound r ≡ true) where
   make-legal : (x : ℕ) → allowed (r .restriction) x ≡ true → bitAnd x (top - r .mask) ≡ r .fixed → legal r x ≡ true
   unfolding legal
   make-legal x a e = both (allowed (r .restriction) x) (eqb (bitAnd x (top - r .mask)) (r .fixed)) a (eq-eqb _ _ e)
+
+  -- a field that keeps what it held lies within a word
+  pub restricted-fits : (f : Field) (vs : List ℕ) → r .restriction ≡ keeps f vs → Fits f
+  restricted-fits f vs e =
+      fits-test f (outside-fits f (top - r .mask) (subst (λ (q : Restriction). restrictsStored q (top - r .mask) ≡ true) e (s .field)))
 
   -- some stored bits written to a register that holds what it can leave one that does
   pub taken-legal : (m old w : ℕ) → spares m (top - r .mask) ≡ true → legal r old ≡ true → legal r (taken (r .restriction) old (copy m w old)) ≡ true
