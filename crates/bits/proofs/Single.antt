@@ -1,11 +1,12 @@
 -- A bit of what is made bit by bit. Assumes nothing.
 use mathlib.Core.Path.{_≡_, refl, sym, ap, _∙_}
 use mathlib.Core.Bool.{Bool, true, false, _&&_, _||_, not}
-use Prim.Native.Nat.{ℕ, zero, suc, _*_, _^_, _-_, _<_}
-use native.Mathlib.Nat.{mod-eq-of-lt}
+use Prim.Native.Nat.{ℕ, zero, suc, _*_, _%_, _^_, _-_, _<_}
+use native.Mathlib.Nat.{mod-eq-of-lt, div-eq-of-lt}
 use native.Mathlib.Omega.{arith}
 use lib.Bits.{bitAnd, bitOr}
 use lib.Dec.{eqb, ltb}
+use lib.Pow.{pow-pos}
 use borrow.Author.Tests.{ltb-true, ltb-false}
 use Rattle.bits.specs.declared.Field.{Field}
 use Rattle.bits.specs.Field.{pick, bit, Fits, top, ones, place, get, put, has, copy}
@@ -28,6 +29,10 @@ has-and n a b = rw (get-and (bit n) a b) (pairs (λ x y. eqb (bitAnd x y) 1) (λ
 
 pub has-or : (n a b : ℕ) → has n (bitOr a b) ≡ (has n a || has n b)
 has-or n a b = rw (get-or (bit n) a b) (pairs (λ x y. eqb (bitOr x y) 1) (λ s t. s || t) refl refl refl refl _ _ (get-lt (bit n) a) (get-lt (bit n) b))
+
+pub has-zero : (n : ℕ) → has n 0 ≡ false
+unfolding get
+has-zero n = ap (λ (x : ℕ). eqb (x % 2) 1) (div-eq-of-lt (pow-pos n))
 
 fits-bit : (n : ℕ) → n < 64 → Fits (bit n)
 fits-bit n h = record { low = h; width = omega arith; sum = omega arith }

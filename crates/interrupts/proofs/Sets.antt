@@ -2,6 +2,7 @@
 use mathlib.Core.Path.{_≡_, refl, sym, ap, _∙_}
 use mathlib.Core.Bool.{Bool, true, false, _&&_, not}
 use mathlib.Core.List.{List, [], _∷_}
+use mathlib.Core.Logic.{inl, inr}
 use Prim.Native.Nat.{ℕ, _^_, _-_, _<_}
 use lib.Bits.{bitAnd, and-lt}
 use Rattle.bits.specs.Field.{pick, top, has}
@@ -12,11 +13,12 @@ use Rattle.delivery.specs.declared.Target.{Target}
 use Rattle.delivery.specs.declared.Target.the-variants.{M, HS, VS}
 use Rattle.interrupts.specs.declared.Lines.{Lines}
 use Rattle.interrupts.specs.Interrupts.{waits, goes, admits, due, order, firstOf}
+use Rattle.interrupts.specs.First.{In}
 
--- two tests that agree find the same
-first-same : (p q : ℕ → Bool) → ((n : ℕ) → p n ≡ q n) → (ns : List ℕ) → firstOf p ns ≡ firstOf q ns
-first-same p q e [] = refl
-first-same p q e (n ∷ ns) = rw (e n, first-same p q e ns)
+-- two tests that agree on a list find the same
+pub first-same : (p q : ℕ → Bool) (ns : List ℕ) → ((n : ℕ) → In n ns → p n ≡ q n) → firstOf p ns ≡ firstOf q ns
+first-same p q [] e = refl
+first-same p q (n ∷ ns) e = rw (e n (inl refl), first-same p q ns (λ m i. e m (inr i)))
 
 -- the set holds the interrupts that wait for a level
 pub Holds : Lines → Target → ℕ → Type 0
@@ -25,7 +27,7 @@ Holds l to set = (n : ℕ) → has n set ≡ (waits l n && goes l to n)
 pub level-first : (c : Context) (l : Lines) (to : Target) (set : ℕ) → Holds l to set
     → pick (admits c (l .vsstatus) to) (firstOf (λ n. has n set) order) 0 ≡ firstOf (due c l to) order
 unfolding Holds
-level-first c l to set e = rw (first-same (λ n. has n set) (λ n. waits l n && goes l to n) e order) (go (admits c (l .vsstatus) to))
+level-first c l to set e = rw (first-same (λ n. has n set) (λ n. waits l n && goes l to n) order (λ n i. e n)) (go (admits c (l .vsstatus) to))
   where
     go : (a : Bool) → pick a (firstOf (λ n. waits l n && goes l to n) order) 0 ≡ firstOf (λ n. a && (waits l n && goes l to n)) order
     go true = refl

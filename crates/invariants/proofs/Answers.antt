@@ -14,7 +14,7 @@ use Rattle.csr.specs.declared.Form.{Form}
 use Rattle.hart.specs.Event.{refusal}
 use Rattle.hart.specs.Access.{valueOf, accessRow, accessFound, access}
 use Rattle.invariants.specs.Events.{Event, run}
-use Rattle.invariants.proofs.Comes.{Comes, refuses, traps, mrets, srets-VS, srets-HS, moves, writes, comes}
+use Rattle.invariants.proofs.Comes.{Comes, refuses, traps, mrets, srets-VS, srets-HS, moves, writes, interrupts, rests, comes}
 
 as-given : (h : Hart) (s : Step) → Comes h s → 0 < refusal (s .outcome) → s .hart ≡ h
 as-given h s (refuses m z) r = refl
@@ -24,6 +24,8 @@ as-given h s (srets-VS a v) r = absurd (omega arith)
 as-given h s (srets-HS a v) r = absurd (omega arith)
 as-given h s (moves a) r = absurd (omega arith)
 as-given h s (writes a place l w v x) r = absurd (omega arith)
+as-given h s (interrupts a to n d) r = absurd (omega arith)
+as-given h s (rests a) r = absurd (omega arith)
 
 -- a refusal returns the hart as given: every event
 pub refusal-as-given : (e : Event) (h : Hart) → 0 < refusal (run e h .outcome) → run e h .hart ≡ h

@@ -8,7 +8,8 @@ use Rattle.bits.proofs.Bools.{clash}
 use Rattle.table.specs.declared.Row.{Row}
 use Rattle.table.specs.declared.Found.{Found}
 use Rattle.table.specs.declared.Found.the-variants.{At, Nothing}
-use Rattle.registers.specs.Registers.{count, View, at}
+use Rattle.registers.specs.Views.{View}
+use Rattle.registers.specs.Registers.{count, at}
 use Rattle.table.specs.Table.{rowOf, table, firstAt, reached}
 use Rattle.table.proofs.Listed.{lookup-found}
 use Rattle.privilege.specs.declared.Verdict.{Verdict}
@@ -19,8 +20,15 @@ use Rattle.delivery.specs.Delivery.{callCause, breakpoint}
 use Rattle.hart.specs.declared.state.Hart.{Hart}
 use Rattle.hart.specs.declared.event.Step.{Step}
 use Rattle.csr.specs.declared.Form.{Form}
-use Rattle.hart.specs.Hart.{context, passes}
-use Rattle.hart.specs.Event.{done, refused, trapped, plain, moved, settled}
+use Rattle.delivery.specs.declared.Target.{Target}
+use Rattle.interrupts.specs.declared.Due.{Due}
+use Rattle.interrupts.specs.declared.Due.the-variants.{To, Nothing}
+use Rattle.interrupts.specs.Interrupts.{chosen, interruption}
+use Rattle.hart.specs.declared.event.Outcome.the-variants.{Interrupted}
+use Rattle.hart.specs.Hart.{context, lines, passes}
+use Rattle.hart.specs.Deliver.{deliveredTo}
+use Rattle.hart.specs.Event.{step, done, refused, trapped, plain, moved, settled}
+use Rattle.hart.specs.Interrupt.{taking, interrupt}
 use Rattle.hart.specs.Trap.{trap, ecall, ebreak}
 use Rattle.hart.specs.Return.{returnedM, returnedHS, returnedVS, mret, sret}
 use Rattle.hart.specs.Wait.{wfi, sfenceVma, hfenceVvma, hfenceGvma}
@@ -46,7 +54,9 @@ pub data Comes (h : Hart) : Step → Type 0 where
   srets-HS : passes h ≡ true → eqb (h .v) 1 ≡ false → Comes h (done (returnedHS h))
   moves : passes h ≡ true → Comes h (done (moved h))
   writes : passes h ≡ true → (place : ℕ) → place < count → (w : Bool) → Allowed (verdict (context h) (rowOf (at place)) w) → (x : ℕ)
-      → Comes h (done (written h (reaches h place .home) (reaches h place .writes) x w))
+      → Comes h (done (written h (reaches h place) x w))
+  interrupts : passes h ≡ true → (to : Target) (n : ℕ) → chosen (context h) (lines h) ≡ To to n → Comes h (step (deliveredTo to h (interruption to n)) (Interrupted n))
+  rests : passes h ≡ true → Comes h (done h)
 
 -- an event whose finished step is one of them
 comes-settled : (h : Hart) (own : ℕ) (v : Verdict) (value : ℕ) (finished : Step) → (passes h ≡ true → Allowed v → Comes h finished) → Comes h (settled h own v value finished)
@@ -69,8 +79,12 @@ comes-access (At place row) h number own form w b e =
     let l = lookup-found number place row e in
     comes-row h own place row form w b (l .below) (l .row)
 
+comes-taking : (h : Hart) → passes h ≡ true → (d : Due) → chosen (context h) (lines h) ≡ d → Comes h (taking h d)
+comes-taking h p (To to n) e = interrupts p to n e
+comes-taking h p Nothing e = rests p
+
 pub comes : (e : Event) (h : Hart) → Comes h (run e h)
-unfolding run trap ecall ebreak mret sret wfi sfenceVma hfenceVvma hfenceGvma access
+unfolding run trap ecall ebreak mret sret wfi sfenceVma hfenceVvma hfenceGvma interrupt access
 comes (events.trap t) h = comes-settled h _ _ _ _ (λ p a. traps p t)
 comes events.ecall h = comes-settled h 0 _ _ _ (λ p a. traps p (plain (callCause (context h)) 0))
 comes events.ebreak h = comes-settled h 0 _ _ _ (λ p a. traps p (breakpoint (h .v) (h .pc)))
@@ -80,4 +94,5 @@ comes events.wfi h = comes-settled h 0 _ _ _ (λ p a. moves p)
 comes events.sfence-vma h = comes-settled h 0 _ _ _ (λ p a. moves p)
 comes events.hfence-vvma h = comes-settled h 0 _ _ _ (λ p a. moves p)
 comes events.hfence-gvma h = comes-settled h 0 _ _ _ (λ p a. moves p)
+comes events.interrupt h = comes-settled h 0 _ _ _ (λ p a. comes-taking h p (chosen (context h) (lines h)) refl)
 comes (events.access form number w b) h = comes-access (firstAt table number 0) h number _ form w b refl

@@ -13,7 +13,7 @@ use Rattle.registers.specs.Rules.{legal, stored}
 use Rattle.table.specs.Table.{firstAt}
 use Rattle.hart.specs.declared.state.Hart.{Hart}
 use Rattle.hart.specs.declared.event.Outcome.{Outcome}
-use Rattle.hart.specs.declared.event.Outcome.the-variants.{Done, Trapped, Refused}
+use Rattle.hart.specs.declared.event.Outcome.the-variants.{Done, Trapped, Refused, Interrupted}
 use Rattle.hart.specs.declared.access.Accessed.{Accessed}
 use Rattle.registers.specs.File.{_↢_, _with_, registersPass}
 use Rattle.hart.specs.Hart.{reg, reset, passes}
@@ -51,6 +51,7 @@ cause a = of (a .outcome)
     of Done = 0
     of (Trapped c) = c
     of (Refused n) = 0
+    of (Interrupted n) = 0
 
 -- in M, with MPP=3 and MPV=1
 abbrev stays : Hart

@@ -2,6 +2,7 @@ pub mod Mode
 pub mod Writes
 pub mod Settled
 pub mod Comes
+pub mod Taken
 pub mod Passing
 pub mod Answers
 pub mod Sides

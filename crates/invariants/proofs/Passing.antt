@@ -3,7 +3,7 @@ use mathlib.Core.Path.{_≡_, refl, sym, ap, ap₂, subst, _∙_}
 use mathlib.Core.Bool.{Bool, true, false, _&&_, _||_, not}
 use mathlib.Core.List.{List, [], _∷_}
 use mathlib.Core.Logic.{_⊎_, inl, inr, ⊎-elim}
-use Prim.Native.Nat.{ℕ, zero, suc, _%_, _^_, _-_, _<_}
+use Prim.Native.Nat.{ℕ, zero, suc, _+_, _*_, _%_, _^_, _-_, _<_}
 use native.Mathlib.Omega.{arith}
 use lib.Bits.{bitAnd, bitOr, and-zero-r, or-zero-r, and-mask}
 use lib.Dec.{eqb, ltb}
@@ -22,7 +22,8 @@ use Rattle.bits.proofs.Every.{every-at, every-set}
 use Rattle.registers.specs.Fields.{TVM, MIE, MPIE, MPRV, MPP, MPV, SPP, SPV}
 use Rattle.registers.specs.Places.{kept, stvec, sepc, vsstatus, vstvec, vsepc, mstatus, mtvec, mepc, hstatus, medeleg, hedeleg}
 use Rattle.registers.specs.Rules.{legal, among, stored, stores-epc, rule}
-use Rattle.registers.specs.Registers.{count, machine, View, no-bits, Register, register, registers, at}
+use Rattle.registers.specs.Views.{View, lets, up, storedBy, no-bits}
+use Rattle.registers.specs.Registers.{count, machine, Register, register, registers, at}
 use Rattle.table.specs.Table.{rowOf}
 use Rattle.registers.proofs.Legal.{taken-has, fine, takes, same, legal-allowed}
 use Rattle.registers.proofs.Rows.{rule-sound, stored-legal, soundView, reaches-sound}
@@ -32,13 +33,15 @@ use Rattle.status.proofs.Kept.{stays, Privilege, intoM-fine}
 use Rattle.exceptions.specs.declared.Exception.{Exception}
 use Rattle.delivery.specs.declared.Target.{Target}
 use Rattle.delivery.specs.declared.Target.the-variants.{M, HS, VS}
-use Rattle.delivery.specs.Delivery.{target}
+use Rattle.delivery.specs.Delivery.{target, base, isInterrupt, code, handler}
+use Rattle.interrupts.specs.declared.Due.the-variants.{To}
+use Rattle.interrupts.specs.Interrupts.{chosen, interruption}
 use Rattle.privilege.specs.Mode.{isU, isHS, isM, isSet}
 use Rattle.hart.specs.declared.state.Hart.{Hart}
 use Rattle.hart.specs.declared.event.Step.{Step}
 use Rattle.registers.specs.File.{Write, _↢_, _with_, holds}
-use Rattle.hart.specs.Hart.{reg, context, passes}
-use Rattle.hart.specs.Deliver.{base, writesM, writesHS, writesVS, deliveredM, deliveredHS, deliveredVS, deliveredTo, delivered}
+use Rattle.hart.specs.Hart.{reg, context, lines, passes}
+use Rattle.hart.specs.Deliver.{writesM, writesHS, writesVS, deliveredM, deliveredHS, deliveredVS, deliveredTo, delivered}
 use Rattle.hart.specs.Event.{refusal, next, moved}
 use Rattle.hart.specs.Return.{writesMRET, writesHSRET, writesVSRET, returnedM, returnedHS, returnedVS}
 use Rattle.csr.specs.Access.{isSatp, isHgatp, verdict}
@@ -49,7 +52,8 @@ use Rattle.invariants.specs.Learns.{guest}
 use Rattle.invariants.proofs.Mode.{Mode, Passing, passing, passes-of}
 use Rattle.invariants.proofs.Mode as mode
 use Rattle.invariants.proofs.Writes.{allIn, outside-kept, with-holds}
-use Rattle.invariants.proofs.Comes.{Allowed, reaches, Comes, refuses, traps, mrets, srets-VS, srets-HS, moves, writes, comes}
+use Rattle.invariants.proofs.Comes.{Allowed, reaches, Comes, refuses, traps, mrets, srets-VS, srets-HS, moves, writes, interrupts, rests, comes}
+use Rattle.invariants.proofs.Taken.{taken-below}
 
 -- ---- what single registers give and take
 
@@ -65,8 +69,8 @@ epc-aligned : (x : ℕ) → legal stores-epc x ≡ true → x % 4 ≡ 0
 unfolding legal
 epc-aligned x t = sym (and-mask x 2) ∙ eqb-true _ _ t
 
-base-aligned : (x : ℕ) → base x % 4 ≡ 0
-base-aligned x = omega arith
+handler-aligned : (tvec cause : ℕ) → handler tvec cause % 4 ≡ 0
+handler-aligned tvec cause = pick-both (λ (pc : ℕ). pc % 4 ≡ 0) (isInterrupt cause && has 0 tvec) ((base tvec + 4 * code cause) % 2 ^ 64) (base tvec) (λ e. omega arith) (λ e. omega arith)
 
 next-aligned : (x : ℕ) → x % 4 ≡ 0 → next x % 4 ≡ 0
 next-aligned x e = omega arith
@@ -126,7 +130,7 @@ module _ (h : Hart) (t : Exception) (p : Passing h) (l : length (h .regs) ≡ ke
   unfolding deliveredM
   into-M = record {
     mode = mode.M;
-    aligned = base-aligned (reg h mtvec);
+    aligned = handler-aligned (reg h mtvec) (t .cause);
     mprv = ap not (and-false (isSet MPRV (getD (h .regs with writesM h t) mstatus 0)));
     regs = with-holds (writesM h t) (h .regs) (p .regs) (
       stays mstatus (intoM (h .v) (h .privilege) (t .flag) (reg h mstatus)) (reg h mstatus) (intoM-fine (h .v) (h .privilege) (t .flag) (reg h mstatus) (privilege-of (h .v) (h .privilege) (p .mode))) (legal-at h mstatus p l (omega arith)),
@@ -142,7 +146,7 @@ module _ (h : Hart) (t : Exception) (p : Passing h) (l : length (h .regs) ≡ ke
       let c : isSet MPRV (getD (h .regs with writesHS h t) mstatus 0) ≡ false = ap (λ (x : ℕ). eqb x 1) (ap (get MPRV) e ∙ untouched-kept MPRV (intoS (h .privilege) s) s refl) ∙ clear-MPRV h p m in
       record {
         mode = mode.HS;
-        aligned = base-aligned (reg h stvec);
+        aligned = handler-aligned (reg h stvec) (t .cause);
         mprv = mprv-rule _ _ c;
         regs = with-holds (writesHS h t) (h .regs) (p .regs) (
           stays mstatus (intoS (h .privilege) s) s refl (legal-at h mstatus p l (omega arith)),
@@ -160,7 +164,7 @@ module _ (h : Hart) (t : Exception) (p : Passing h) (l : length (h .regs) ≡ ke
       let c : isSet MPRV (getD (h .regs with writesVS h t) mstatus 0) ≡ false = ap (λ (x : ℕ). eqb (get MPRV x) 1) (outside-kept guest (writesVS h t) (h .regs) refl mstatus refl) ∙ clear-MPRV h p m in
       record {
         mode = mode.VS;
-        aligned = base-aligned (reg h vstvec);
+        aligned = handler-aligned (reg h vstvec) (t .cause);
         mprv = mprv-rule _ _ c;
         regs = with-holds (writesVS h t) (h .regs) (p .regs) (
           stays vsstatus (intoS (h .privilege) s) s refl (legal-at h vsstatus p l (omega arith)),
@@ -168,14 +172,19 @@ module _ (h : Hart) (t : Exception) (p : Passing h) (l : length (h .regs) ≡ ke
         );
       }
 
-  into : (to : Target) → target (context h) (reg h medeleg) (reg h hedeleg) (t .cause) ≡ to → Passing (deliveredTo to h t)
-  into M e = into-M
-  into HS e = into-HS (not-M (isM (context h)) _ (eqb (h .v) 1 && has (t .cause) (reg h hedeleg)) HS e (λ x. clash (cc)))
-  into VS e = into-VS (not-M (isM (context h)) _ (eqb (h .v) 1 && has (t .cause) (reg h hedeleg)) VS e (λ x. clash (cc)))
+  -- to M, or from a mode below it
+  into : (to : Target) → ((to ≡ M → ⊥) → isM (context h) ≡ false) → Passing (deliveredTo to h t)
+  into M below = into-M
+  into HS below = into-HS (below (λ x. clash (cc)))
+  into VS below = into-VS (below (λ x. clash (cc)))
 
   delivered-passes : Passing (delivered h t)
   unfolding delivered
-  delivered-passes = into (target (context h) (reg h medeleg) (reg h hedeleg) (t .cause)) refl
+  delivered-passes =
+      into (target (context h) (reg h medeleg) (reg h hedeleg) (t .cause)) (not-M (isM (context h)) _ (eqb (h .v) 1 && has (t .cause) (reg h hedeleg)) _ refl)
+
+  taken-passes : (to : Target) (n : ℕ) → chosen (context h) (lines h) ≡ To to n → Passing (deliveredTo to h t)
+  taken-passes to n e = into to (λ other. taken-below h to n (p .mode) e other)
 
 -- ---- returns
 
@@ -260,7 +269,7 @@ in-M h place w p a m =
 
 -- a view of mstatus without MPRV
 abbrev sparesMPRV : View → Bool
-sparesMPRV v = not (eqb (v .home) mstatus) || (eqb (get MPRV (v .writes)) 0 && eqb (get MPRV (top - v .writes)) 1)
+sparesMPRV v = not (eqb (v .home) mstatus) || (eqb (get MPRV (up (v .shift) (v .writes))) 0 && eqb (get MPRV (top - up (v .shift) (v .writes))) 1)
 
 -- one computed test: MPRV is written by M's numbers alone
 abbrev test : ℕ → Register → Bool
@@ -289,22 +298,23 @@ module _ (h : Hart) (v : View) (x : ℕ) (p : Passing h) (l : length (h .regs) �
   in-places = ltb-true _ _ (and-left (ltb (v .home) kept) _ s)
 
   new : ℕ
-  new = stored (v .home) (v .writes) (reg h (v .home)) x
+  new = storedBy v (lets (h .regs) v) (reg h (v .home)) x
 
   new-holds : holds (v .home) new ≡ true
   unfolding new
-  new-holds = stored-legal (v .home) (v .writes) (reg h (v .home)) x (and-right (ltb (v .home) kept) _ s) (legal-at h (v .home) p l in-places)
+  new-holds =
+      stored-legal (v .home) (up (v .shift) (v .writes)) (reg h (v .home)) _ (and-right (ltb (v .shift) 64) _ (and-right (ltb (v .home) kept) _ s)) (legal-at h (v .home) p l in-places)
 
   new-MPRV : sparesMPRV v ≡ true → get MPRV (getD (set (h .regs) (v .home) new) mstatus 0) ≡ get MPRV (reg h mstatus)
   unfolding new
   new-MPRV t = go (eqb (v .home) mstatus) refl t
     where
-      go : (b : Bool) → eqb (v .home) mstatus ≡ b → (not b || (eqb (get MPRV (v .writes)) 0 && eqb (get MPRV (top - v .writes)) 1)) ≡ true
-          → get MPRV (getD (set (h .regs) (v .home) (stored (v .home) (v .writes) (reg h (v .home)) x)) mstatus 0) ≡ get MPRV (reg h mstatus)
-      go true e k = rw (eqb-true (v .home) mstatus e) (ap (get MPRV) (getD-set-same (h .regs) mstatus _ 0 (omega arith)) ∙ kept-MPRV (v .writes) (reg h mstatus) x k)
+      go : (b : Bool) → eqb (v .home) mstatus ≡ b → (not b || (eqb (get MPRV (up (v .shift) (v .writes))) 0 && eqb (get MPRV (top - up (v .shift) (v .writes))) 1)) ≡ true
+          → get MPRV (getD (set (h .regs) (v .home) (storedBy v (lets (h .regs) v) (reg h (v .home)) x)) mstatus 0) ≡ get MPRV (reg h mstatus)
+      go true e k = rw (eqb-true (v .home) mstatus e) (ap (get MPRV) (getD-set-same (h .regs) mstatus _ 0 (omega arith)) ∙ kept-MPRV (up (v .shift) (v .writes)) (reg h mstatus) _ k)
       go false e k = ap (get MPRV) (getD-set-other (h .regs) (v .home) mstatus _ 0 (λ q. eqb-false (v .home) mstatus e (sym q)))
 
-  written-passes : (isM (context h) ≡ true) ⊎ (sparesMPRV v ≡ true) → (w : Bool) → Passing (written h (v .home) (v .writes) x w)
+  written-passes : (isM (context h) ≡ true) ⊎ (sparesMPRV v ≡ true) → (w : Bool) → Passing (written h v x w)
   unfolding written new
   written-passes m true =
       record {
@@ -336,7 +346,9 @@ leaves h s l (moves a) r = let p = passing h a in passes-of (moved h) (record { 
 leaves h s l (writes a place b w v x) r =
     let p = passing h a in
     let to = reaches h place in
-    passes-of (written h (to .home) (to .writes) x w) (written-passes h to x p l (reaches-sound place (eqb (h .v) 1)) (reaches-MPRV h place w p b v) w)
+    passes-of (written h to x w) (written-passes h to x p l (reaches-sound place (eqb (h .v) 1)) (reaches-MPRV h place w p b v) w)
+leaves h s l (interrupts a to n d) r = passes-of (deliveredTo to h (interruption to n)) (taken-passes h (interruption to n) (passing h a) l to n d)
+leaves h s l (rests a) r = a
 
 -- every accepted event leaves a hart that passes check 2 (a hart keeps so many registers)
 pub accepted-passes : (e : Event) (h : Hart) → length (h .regs) ≡ kept → refusal (run e h .outcome) ≡ 0 → passes (run e h .hart) ≡ true

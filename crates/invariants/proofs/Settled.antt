@@ -9,7 +9,8 @@ use Rattle.privilege.specs.declared.Verdict.{Verdict}
 use Rattle.hart.specs.declared.state.Hart.{Hart}
 use Rattle.hart.specs.declared.event.Step.{Step}
 use Rattle.hart.specs.Hart.{passes}
-use Rattle.hart.specs.Event.{refused, raised, settled}
+use Rattle.hart.specs.declared.event.Stop.the-variants.{Goes}
+use Rattle.hart.specs.Event.{refused, raised, refuses, raises, settledBy, settled}
 
 -- what an event comes to is the hart as given, refused; or a cause raised; or the step that is done: each with what led there
 pub settled-cases : (P : Step → Type 0) (h : Hart) (own : ℕ) (verdict : Verdict) (value : ℕ) (finished : Step)
@@ -20,18 +21,18 @@ pub settled-cases : (P : Step → Type 0) (h : Hart) (own : ℕ) (verdict : Verd
 unfolding settled
 settled-cases P h own verdict value finished r c d = one (not (passes h)) refl
   where
-    four : passes h ≡ true → own ≡ 0 → verdict .gives2 ≡ false → (b : Bool) → verdict .gives22 ≡ b → P (pick b (raised h 22 value) finished)
+    four : passes h ≡ true → own ≡ 0 → verdict .gives2 ≡ false → (b : Bool) → verdict .gives22 ≡ b → P (settledBy (pick b (raises 22) Goes) h value finished)
     four p o v true e = c p 22
     four p o v false e = d p o v e
 
-    three : passes h ≡ true → own ≡ 0 → (b : Bool) → verdict .gives2 ≡ b → P (pick b (raised h 2 value) (pick (verdict .gives22) (raised h 22 value) finished))
+    three : passes h ≡ true → own ≡ 0 → (b : Bool) → verdict .gives2 ≡ b → P (settledBy (pick b (raises 2) (pick (verdict .gives22) (raises 22) Goes)) h value finished)
     three p o true e = c p 2
     three p o false e = four p o e (verdict .gives22) refl
 
-    two : passes h ≡ true → (b : Bool) → not (eqb own 0) ≡ b → P (pick b (refused h own) (pick (verdict .gives2) (raised h 2 value) (pick (verdict .gives22) (raised h 22 value) finished)))
+    two : passes h ≡ true → (b : Bool) → not (eqb own 0) ≡ b → P (settledBy (pick b (refuses own) (pick (verdict .gives2) (raises 2) (pick (verdict .gives22) (raises 22) Goes))) h value finished)
     two p true e = r own (not-true _ e)
     two p false e = three p (eqb-true _ _ (not-false _ e)) (verdict .gives2) refl
 
-    one : (b : Bool) → not (passes h) ≡ b → P (pick b (refused h 2) (pick (not (eqb own 0)) (refused h own) (pick (verdict .gives2) (raised h 2 value) (pick (verdict .gives22) (raised h 22 value) finished))))
+    one : (b : Bool) → not (passes h) ≡ b → P (settledBy (pick b (refuses 2) (pick (not (eqb own 0)) (refuses own) (pick (verdict .gives2) (raises 2) (pick (verdict .gives22) (raises 22) Goes)))) h value finished)
     one true e = r 2 refl
     one false e = two (not-false _ e) (not (eqb own 0)) refl

@@ -10,11 +10,13 @@ use borrow.Author.Tests.{eqb-true}
 use Rattle.bits.specs.Field.{pick, has}
 use Rattle.bits.proofs.Bools.{clash}
 use Rattle.registers.specs.Places.{medeleg, hedeleg}
+use Rattle.registers.specs.Views.{View}
 use Rattle.exceptions.specs.declared.Exception.{Exception}
 use Rattle.privilege.specs.Mode.{isM}
 use Rattle.delivery.specs.declared.Target.{Target}
 use Rattle.delivery.specs.declared.Target.the-variants.{M, HS, VS}
 use Rattle.delivery.specs.Delivery.{target}
+use Rattle.interrupts.specs.Interrupts.{interruption}
 use Rattle.hart.specs.declared.state.Hart.{Hart}
 use Rattle.hart.specs.declared.event.Step.{Step}
 use Rattle.hart.specs.Hart.{reg, context}
@@ -24,7 +26,7 @@ use Rattle.hart.specs.Access.{written}
 use Rattle.invariants.specs.Events.{Event, run}
 use Rattle.invariants.specs.Learns.{guest}
 use Rattle.invariants.proofs.Writes.{apart, outside-kept}
-use Rattle.invariants.proofs.Comes.{Comes, refuses, traps, mrets, srets-VS, srets-HS, moves, writes, comes}
+use Rattle.invariants.proofs.Comes.{Comes, refuses, traps, mrets, srets-VS, srets-HS, moves, writes, interrupts, rests, comes}
 
 -- all places but those of the VS registers
 abbrev pub host : ℕ → Bool
@@ -66,10 +68,10 @@ set-side : (h : Hart) (place x : ℕ) (b : Bool) → guest place ≡ b → ((p :
 set-side h place x true e = inl (λ p f. getD-set-other (h .regs) place p x 0 (apart guest p place f e))
 set-side h place x false e = inr (λ p f. getD-set-other (h .regs) place p x 0 (apart host p place f (ap not e)))
 
-written-side : (h : Hart) (home mask x : ℕ) (writes : Bool) → OneSide h (written h home mask x writes)
+written-side : (h : Hart) (v : View) (x : ℕ) (writes : Bool) → OneSide h (written h v x writes)
 unfolding written
-written-side h home mask x true = set-side h home _ (guest home) refl
-written-side h home mask x false = inl (λ p f. refl)
+written-side h v x true = set-side h (v .home) _ (guest (v .home)) refl
+written-side h v x false = inl (λ p f. refl)
 
 side : (h : Hart) (s : Step) → Comes h s → OneSide h (s .hart)
 unfolding returnedM returnedHS returnedVS
@@ -79,7 +81,9 @@ side h s (mrets a m) = inr (outside-kept host (writesMRET h) (h .regs) refl)
 side h s (srets-VS a v) = inl (outside-kept guest (writesVSRET h) (h .regs) refl)
 side h s (srets-HS a v) = inr (outside-kept host (writesHSRET h) (h .regs) refl)
 side h s (moves a) = inl (λ p f. refl)
-side h s (writes a place l w v x) = written-side h _ _ x w
+side h s (writes a place l w v x) = written-side h _ x w
+side h s (interrupts a to n d) = delivered-side to h (interruption to n)
+side h s (rests a) = inl (λ p f. refl)
 
 -- every event changes VS registers alone, or none of them
 pub never-swapped : (e : Event) (h : Hart) → OneSide h (run e h .hart)

@@ -8,13 +8,14 @@ use Rattle.csr.specs.declared.Form.{Form}
 use Rattle.hart.specs.declared.access.Accessed.{Accessed}
 use Rattle.hart.specs.Event.{step}
 use Rattle.hart.specs.Trap as traps
+use Rattle.hart.specs.Interrupt as interrupts
 use Rattle.hart.specs.Return as returns
 use Rattle.hart.specs.Wait as waits
 use Rattle.hart.specs.Access as accesses
 
 pub data Event : Type 0 where
   trap : Exception → Event
-  ecall ebreak mret sret wfi sfence-vma hfence-vvma hfence-gvma : Event
+  ecall ebreak mret sret wfi sfence-vma hfence-vvma hfence-gvma interrupt : Event
   access : Form → (number value : ℕ) → (writes : Bool) → Event
 
 -- an access, but for the value answered
@@ -32,4 +33,5 @@ run wfi h = waits.wfi h
 run sfence-vma h = waits.sfenceVma h
 run hfence-vvma h = waits.hfenceVvma h
 run hfence-gvma h = waits.hfenceGvma h
+run interrupt h = interrupts.interrupt h
 run (access form number value writes) h = stepOf (accesses.access h form number value writes)

@@ -566,6 +566,7 @@ fn the_languages_page_shows_what_the_program_writes() {
     for script in [
         "hart 1 1 1000\nreg 302 400\nreg 105 2000\necall\nwrite 180 5000000000000000\n",
         "reg 300 a00001000\nwfi\n",
+        "hart 1 0 1000\nreg 205 4001\nreg 603 40\nreg 304 40\nreg 344 40\ninterrupt\n",
     ] {
         let sample = format!("```text\n{}```\n", written("--explain", script));
         assert!(page.contains(&sample), "{sample}");
