@@ -123,11 +123,10 @@ module _ (c : Context) (l : Lines) where
   -- none is taken exactly if none of the nine is due at any level
   pub rests-exactly : (chosen c l ≡ Nothing) ↔ ((to : Target) (n : ℕ) → In n order → due c l to n ≡ false)
   unfolding chosen at
-  rests-exactly =
-      (
-        λ e to n i. zero-none (due c l to) order refl (level-none at levels e to (is-level to)) n i,
-        λ h. none-level at levels (λ t i. none-zero (due c l t) order (h t)),
-      )
+  rests-exactly = (
+    λ e to n i. zero-none (due c l to) order refl (level-none at levels e to (is-level to)) n i,
+    λ h. none-level at levels (λ t i. none-zero (due c l t) order (h t)),
+  )
 
   stands : (n : ℕ) (before after : List ℕ) → In n (before ++ (n ∷ after))
   stands n [] after = inl refl

@@ -37,11 +37,11 @@ pub record Replay : Type 0 where
   pub expected : ℕ
 
 infix 70 _gives_
-abbrev _gives_ : ℕ → ℕ → Replay
+abbrev pub _gives_ : ℕ → ℕ → Replay
 a gives k = record { answer = a; expected = k }
 
 -- all ones written to a register of a reset hart in M, and read back
-abbrev all-ones : ℕ → ℕ
+abbrev pub all-ones : ℕ → ℕ
 all-ones number = read (write (reset 0 3 0) number top .hart) number .value
 
 abbrev cause : Accessed → ℕ

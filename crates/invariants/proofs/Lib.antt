@@ -9,3 +9,4 @@ pub mod Sides
 pub mod Guest
 pub mod Learns
 pub mod Known
+pub mod Worked

@@ -36,17 +36,19 @@ const HFENCE_VVMA: u64 = 11;
 
 const HFENCE_GVMA: u64 = 12;
 
+const INTERRUPT: u64 = 13;
+
 // Eleven letters each.
-const NAMES: [u8; 143] = *b"read       write      set        clear      trap       \
+const NAMES: [u8; 154] = *b"read       write      set        clear      trap       \
 ecall      ebreak     mret       sret       wfi        \
-sfence.vma hfence.vvmahfence.gvma";
+sfence.vma hfence.vvmahfence.gvmainterrupt  ";
 
 // A row of the table is an event, with a register's number or a trap's cause from bit 4 up, and a value from bit 20 up.
 const NUMBER: u64 = 4;
 
 const VALUE: u64 = 20;
 
-const TOUR: [u64; 36] = [
+const TOUR: [u64; 42] = [
     // Register 1000 gives refusal 5.
     READ | 0x1000 << NUMBER,
     // M hands all that it can to HS and VS, but for the environment call from HS.
@@ -92,6 +94,13 @@ const TOUR: [u64; 36] = [
     TRAP | 21 << NUMBER | 0x4000_1008 << VALUE,
     READ | 0x34B << NUMBER,
     TRAP | 8 << NUMBER,
+    // An interrupt that waits for MIE, and then is taken: M's tvec is vectored.
+    WRITE | 0x304 << NUMBER | 2 << VALUE,
+    WRITE | 0x344 << NUMBER | 2 << VALUE,
+    INTERRUPT,
+    SET | 0x300 << NUMBER | 8 << VALUE,
+    INTERRUPT,
+    READ | 0x342 << NUMBER,
 ];
 
 fn text(s: &[u8]) {
@@ -105,7 +114,7 @@ fn number(n: u64) {
 
 fn show_event(event: u64, n: u64, x: u64) {
     let names = NAMES;
-    if event <= HFENCE_GVMA {
+    if event <= INTERRUPT {
         let at = 11 * event as usize;
         text(&names[at..at + 11]);
     }
@@ -126,6 +135,10 @@ fn show_outcome(o: Outcome) {
         }
         Outcome::Refused(n) => {
             text(b" refused");
+            number(n);
+        }
+        Outcome::Interrupted(n) => {
+            text(b" interrupted");
             number(n);
         }
     }
@@ -163,7 +176,8 @@ fn instruction(h: Hart, event: u64, n: u64, x: u64) -> Step {
         WFI => h.wfi(),
         SFENCE_VMA => h.sfence_vma(),
         HFENCE_VVMA => h.hfence_vvma(),
-        _ => h.hfence_gvma(),
+        HFENCE_GVMA => h.hfence_gvma(),
+        _ => h.interrupt(),
     }
 }
 
@@ -211,7 +225,7 @@ fn main() {
     let tour = TOUR;
     let mut h = start;
     let mut i: usize = 0;
-    while i < 36 {
+    while i < 42 {
         h = step(h, tour[i]);
         i = i + 1;
     }

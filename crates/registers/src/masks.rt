@@ -86,13 +86,18 @@ pub const S_INTERRUPTS: u64 = 1 << SSI.low | 1 << STI.low | 1 << SEI.low;
 pub const VS_INTERRUPTS: u64 = 1 << VSSI.low | 1 << VSTI.low | 1 << VSEI.low;
 
 // what mie writes and mip can hold
-pub const INTERRUPTS: u64 =
-    S_INTERRUPTS | VS_INTERRUPTS | 1 << MSI.low | 1 << MTI.low | 1 << MEI.low;
+pub const INTERRUPTS: u64 = S_INTERRUPTS
+    | VS_INTERRUPTS
+    | 1 << MSI.low
+    | 1 << MTI.low
+    | 1 << MEI.low;
 
 // what a write to mip writes
 pub const MIP: u64 = S_INTERRUPTS | 1 << VSSI.low;
 
-// what a write to sip or vsip writes, and to hip
+// what a write to sip, to vsip and to hip writes
 pub const SIP: u64 = 1 << SSI.low;
+
+pub const VSIP: u64 = SIP;
 
 pub const HIP: u64 = 1 << VSSI.low;

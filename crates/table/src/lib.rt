@@ -146,7 +146,7 @@ const TABLE: [Row; ROWS] = [
         number: 0x244,
         level: HYPERVISOR,
         read_only: false,
-        mask: masks::SIP,
+        mask: masks::VSIP,
     },
     // vsatp
     Row {
