@@ -50,14 +50,8 @@ firstOf test (n ∷ ns) = pick (test n) n (firstOf test ns)
 
 -- the first level that has an interrupt, with it
 abbrev pub firstLevel : (Target → ℕ) → List Target → Due
-firstLevel has [] = Nothing
-firstLevel has (to ∷ more) = pick (eqb (has to) 0) (firstLevel has more) (To to (has to))
-
--- what each level has
-abbrev pub of : (m hs vs : ℕ) → Target → ℕ
-of m hs vs M = m
-of m hs vs HS = hs
-of m hs vs VS = vs
+firstLevel at [] = Nothing
+firstLevel at (to ∷ more) = pick (eqb (at to) 0) (firstLevel at more) (To to (at to))
 
 unfoldable pub chosen : Context → Lines → Due
 chosen c l = firstLevel (λ to. firstOf (due c l to) order) levels
@@ -71,3 +65,9 @@ written VS n = n - 1
 -- "with value, second value, word and flag 0", "with the interrupt bit set"
 abbrev pub interruption : Target → ℕ → Exception
 interruption to n = record { cause = bitOr (2 ^ 63) (written to n); value = 0; value2 = 0; word = 0; flag = false }
+
+-- what each level has, where the three are given (for a contract of code)
+abbrev pub of : (m hs vs : ℕ) → Target → ℕ
+of m hs vs M = m
+of m hs vs HS = hs
+of m hs vs VS = vs

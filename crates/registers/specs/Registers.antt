@@ -4,7 +4,7 @@ use mathlib.Core.List.{List, [], _∷_}
 use Prim.Native.Nat.{ℕ}
 use lib.ListN.{getD}
 use Rattle.registers.specs.Places.{stvec, sscratch, sepc, scause, stval, satp, vsstatus, vstvec, vsscratch, vsepc, vscause, vstval, vsatp, mstatus, medeleg, mideleg, mie, mtvec, mscratch, mepc, mcause, mtval, mtinst, mtval2, hstatus, hedeleg, hideleg, htval, htinst, hgatp}
-use Rattle.registers.specs.Views.{View, whole, status-view, no-bits, pending, guest-enabled, guest-pending, guest-injected, enabled-S, pending-S, enabled-VS, pending-VS}
+use Rattle.registers.specs.Views.{View, whole, status-view, no-bits, mip-view, hie-view, hip-view, hvip-view, sie-view, sip-view, vsie-view, vsip-view}
 
 -- how many they are
 abbrev pub count : ℕ
@@ -42,22 +42,22 @@ readOnly n l v = record { number = n; level = l; read-only = true; view = v; twi
 abbrev pub registers : List Register
 registers =
     twinned 0x100 status-view (whole vsstatus) ∷  -- sstatus
-    twinned 0x104 enabled-S enabled-VS ∷  -- sie
+    twinned 0x104 sie-view vsie-view ∷  -- sie
     twinned 0x105 (whole stvec) (whole vstvec) ∷
     twinned 0x140 (whole sscratch) (whole vsscratch) ∷
     twinned 0x141 (whole sepc) (whole vsepc) ∷
     twinned 0x142 (whole scause) (whole vscause) ∷
     twinned 0x143 (whole stval) (whole vstval) ∷
-    twinned 0x144 pending-S pending-VS ∷  -- sip
+    twinned 0x144 sip-view vsip-view ∷  -- sip
     twinned 0x180 (whole satp) (whole vsatp) ∷
     register 0x200 hypervisor (whole vsstatus) ∷
-    register 0x204 hypervisor enabled-VS ∷  -- vsie
+    register 0x204 hypervisor vsie-view ∷  -- vsie
     register 0x205 hypervisor (whole vstvec) ∷
     register 0x240 hypervisor (whole vsscratch) ∷
     register 0x241 hypervisor (whole vsepc) ∷
     register 0x242 hypervisor (whole vscause) ∷
     register 0x243 hypervisor (whole vstval) ∷
-    register 0x244 hypervisor pending-VS ∷  -- vsip
+    register 0x244 hypervisor vsip-view ∷  -- vsip
     register 0x280 hypervisor (whole vsatp) ∷
     register 0x300 machine (whole mstatus) ∷
     register 0x302 machine (whole medeleg) ∷
@@ -68,17 +68,17 @@ registers =
     register 0x341 machine (whole mepc) ∷
     register 0x342 machine (whole mcause) ∷
     register 0x343 machine (whole mtval) ∷
-    register 0x344 machine pending ∷  -- mip
+    register 0x344 machine mip-view ∷  -- mip
     register 0x34a machine (whole mtinst) ∷
     register 0x34b machine (whole mtval2) ∷
     register 0x600 hypervisor (whole hstatus) ∷
     register 0x602 hypervisor (whole hedeleg) ∷
     register 0x603 hypervisor (whole hideleg) ∷
-    register 0x604 hypervisor guest-enabled ∷  -- hie
+    register 0x604 hypervisor hie-view ∷  -- hie
     register 0x607 hypervisor no-bits ∷  -- hgeie
     register 0x643 hypervisor (whole htval) ∷
-    register 0x644 hypervisor guest-pending ∷  -- hip
-    register 0x645 hypervisor guest-injected ∷  -- hvip
+    register 0x644 hypervisor hip-view ∷  -- hip
+    register 0x645 hypervisor hvip-view ∷  -- hvip
     register 0x64a hypervisor (whole htinst) ∷
     register 0x680 hypervisor (whole hgatp) ∷
     readOnly 0xe12 hypervisor no-bits ∷  -- hgeip

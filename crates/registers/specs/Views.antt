@@ -54,33 +54,33 @@ abbrev pub no-bits : View
 no-bits = window 0 0 0
 
 -- mip: S's bits and 2 can be written; "mip's bits 3, 7 and 11 .. can't be written", and 6 and 10 move through hvip
-abbrev pub pending : View
-pending = window mip top (bits (ofS ++ (VSSI ∷ [])))
+abbrev pub mip-view : View
+mip-view = window mip top (bits (ofS ++ (VSSI ∷ [])))
 
 -- hie: mie's 2, 6 and 10. hip and hvip: mip's; of hip 2 alone can be written
-abbrev pub guest-enabled : View
-guest-enabled = window mie (bits ofVS) (bits ofVS)
+abbrev pub hie-view : View
+hie-view = window mie (bits ofVS) (bits ofVS)
 
-abbrev pub guest-pending : View
-guest-pending = window mip (bits ofVS) (bits (VSSI ∷ []))
+abbrev pub hip-view : View
+hip-view = window mip (bits ofVS) (bits (VSSI ∷ []))
 
-abbrev pub guest-injected : View
-guest-injected = window mip (bits ofVS) (bits ofVS)
+abbrev pub hvip-view : View
+hvip-view = window mip (bits ofVS) (bits ofVS)
 
 -- 1, 5 and 9, kept so far up at a home, where the register at a gate has the bit
 abbrev pub gated : (home shift writes gate : ℕ) → View
 gated home shift writes gate = record { home = home; shift = shift; shows = bits ofS; writes = writes; gate = gate }
 
 -- sie: mie's 1, 5 and 9 where mideleg has the bit. sip: mip's; 1 alone can be written
-abbrev pub enabled-S : View
-enabled-S = gated mie 0 (bits ofS) mideleg
+abbrev pub sie-view : View
+sie-view = gated mie 0 (bits ofS) mideleg
 
-abbrev pub pending-S : View
-pending-S = gated mip 0 (bits (SSI ∷ [])) mideleg
+abbrev pub sip-view : View
+sip-view = gated mip 0 (bits (SSI ∷ [])) mideleg
 
 -- vsie and vsip: the same of hie and hip where hideleg has the bit, whose 2, 6 and 10 stand at 1, 5 and 9
-abbrev pub enabled-VS : View
-enabled-VS = gated mie 1 (bits ofS) hideleg
+abbrev pub vsie-view : View
+vsie-view = gated mie 1 (bits ofS) hideleg
 
-abbrev pub pending-VS : View
-pending-VS = gated mip 1 (bits (SSI ∷ [])) hideleg
+abbrev pub vsip-view : View
+vsip-view = gated mip 1 (bits (SSI ∷ [])) hideleg
