@@ -45,12 +45,12 @@ use Rattle.csr.specs.declared.Form.{Form}
 use Rattle.csr.specs.Access.{verdict, combined}
 use Rattle.hart.specs.declared.state.Hart.{Hart}
 use Rattle.hart.specs.declared.event.Outcome.{Outcome}
-use Rattle.hart.specs.declared.event.Outcome.the-variants.{Trapped, Interrupted}
+use Rattle.hart.specs.declared.event.Outcome.the-variants.{Done, Trapped, Refused, Interrupted}
 use Rattle.hart.specs.declared.event.Step.{Step}
 use Rattle.hart.specs.declared.access.Accessed.{Accessed}
 use Rattle.hart.specs.Hart.{reg, context, lines}
 use Rattle.hart.specs.Deliver.{writesM, writesHS, writesVS, deliveredM, deliveredHS, deliveredVS, deliveredTo, delivered}
-use Rattle.hart.specs.Event.{step, refused, trapped, no-value, plain, done, refuses, raises, settledBy, settled, moved, next}
+use Rattle.hart.specs.Event.{step, trapped, no-value, plain, done, refuses, raises, settledBy, settled, moved, next}
 use Rattle.hart.specs.declared.event.Stop.the-variants.{Goes}
 use Rattle.hart.specs.Trap.{trap, ecall, ebreak}
 use Rattle.hart.specs.Interrupt.{taking, interrupt}
@@ -159,26 +159,23 @@ module _ (h h′ : Hart) (a : Alike h h′) where
         bits = λ p s. rw (outside-kept aside ws (h .regs) t p (not-aside p s), e, outside-kept aside ws′ (h′ .regs) t′ p (not-aside p s), e′) (a .handed .bits p s);
       }
 
+  -- a trap that leaves the guest
+  leaves : (privilege pc pc′ : ℕ) (ws ws′ : List Write) (o : Outcome) → allIn host ws ≡ true → allIn host ws′ ≡ true → allIn aside ws ≡ true → allIn aside ws′ ≡ true
+      → Same (step (record { v = 0; privilege = privilege; pc = pc; regs = h .regs with ws }) o) (step (record { v = 0; privilege = privilege; pc = pc′; regs = h′ .regs with ws′ }) o)
+  leaves privilege pc pc′ ws ws′ o t t′ u u′ =
+      record {
+        outcome = refl;
+        v = refl;
+        privilege = refl;
+        guest = into-host ws ws′ t t′;
+        handed = stay-handed ws ws′ u u′;
+        pc = λ e. let no : ⊥ = omega arith in absurd no;
+      }
+
   delivered-same : (to : Target) (t : Exception) (o : Outcome) → Same (step (deliveredTo to h t) o) (step (deliveredTo to h′ t) o)
   unfolding deliveredM deliveredHS deliveredVS
-  delivered-same M t o =
-      record {
-        outcome = refl;
-        v = refl;
-        privilege = refl;
-        guest = into-host (writesM h t) (writesM h′ t) refl refl;
-        handed = stay-handed (writesM h t) (writesM h′ t) refl refl;
-        pc = λ e. let no : ⊥ = omega arith in absurd no;
-      }
-  delivered-same HS t o =
-      record {
-        outcome = refl;
-        v = refl;
-        privilege = refl;
-        guest = into-host (writesHS h t) (writesHS h′ t) refl refl;
-        handed = stay-handed (writesHS h t) (writesHS h′ t) refl refl;
-        pc = λ e. let no : ⊥ = omega arith in absurd no;
-      }
+  delivered-same M t o = leaves 3 _ _ (writesM h t) (writesM h′ t) o refl refl refl refl
+  delivered-same HS t o = leaves 1 _ _ (writesHS h t) (writesHS h′ t) o refl refl refl refl
   delivered-same VS t o =
       record {
         outcome = refl;
@@ -200,8 +197,8 @@ module _ (h h′ : Hart) (a : Alike h h′) where
 
   -- ---- an event that is settled
 
-  same-refused : (n : ℕ) → Same (refused h n) (refused h′ n)
-  same-refused n = record { outcome = refl; v = a .left .v ∙ sym (a .right .v); privilege = a .privilege; guest = a .guest; handed = a .handed; pc = λ e. a .pc }
+  as-they-were : (o : Outcome) → Same (step h o) (step h′ o)
+  as-they-were o = record { outcome = refl; v = a .left .v ∙ sym (a .right .v); privilege = a .privilege; guest = a .guest; handed = a .handed; pc = λ e. a .pc }
 
   same-settled : (own : ℕ) (v v′ : Verdict) (value : ℕ) (f f′ : Step) → v ≡ v′ → (Allowed v → Same f f′) → Same (settled h own v value f) (settled h′ own v′ value f′)
   unfolding settled
@@ -209,7 +206,7 @@ module _ (h h′ : Hart) (a : Alike h h′) where
     where
       go : (b₁ b₂ : Bool) → v .gives2 ≡ b₂ → (b₃ : Bool) → v .gives22 ≡ b₃
           → Same (settledBy (pick b₁ (refuses own) (pick b₂ (raises 2) (pick b₃ (raises 22) Goes))) h value f) (settledBy (pick b₁ (refuses own) (pick b₂ (raises 2) (pick b₃ (raises 22) Goes))) h′ value f′)
-      go true b₂ e₂ b₃ e₃ = same-refused own
+      go true b₂ e₂ b₃ e₃ = as-they-were (Refused own)
       go false true e₂ b₃ e₃ = same-trapped (plain 2 value)
       go false false e₂ true e₃ = same-trapped (plain 22 value)
       go false false e₂ false e₃ = d (record { not2 = e₂; not22 = e₃ })
@@ -396,7 +393,7 @@ module _ (h h′ : Hart) (a : Alike h h′) where
 
   same-taking : (d : Due) → Same (taking h d) (taking h′ d)
   same-taking (To to n) = delivered-same to (interruption to n) (Interrupted n)
-  same-taking Nothing = record { outcome = refl; v = a .left .v ∙ sym (a .right .v); privilege = a .privilege; guest = a .guest; handed = a .handed; pc = λ e. a .pc }
+  same-taking Nothing = as-they-were Done
 
   -- ---- every event
 

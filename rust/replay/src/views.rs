@@ -2,7 +2,7 @@
 
 use crate::fields::Field;
 use crate::registers::{
-    self, bits, HIDELEG, HIE, HIP, HVIP, MIDELEG, MIE, MIP, MSTATUS, SIE, SIP, SSTATUS, VSIE, VSIP,
+    self, HIDELEG, HIE, HIP, HVIP, MIDELEG, MIE, MIP, MSTATUS, SIE, SIP, SSTATUS, VSIE, VSIP,
 };
 use balcumentri::Hart;
 
@@ -68,15 +68,16 @@ pub fn not_shown(hart: &Hart, number: u64) -> Option<String> {
     Some(format!("{} {is} not shown: {why}", names.join(", ")))
 }
 
-/// That a view's gate shuts bits off.
+/// That a view's gate shuts bits off: the gate's bits, in the order of the view's.
 pub fn closed(number: u64, shut: &[&Field]) -> Option<String> {
     let view = find(number)?;
     let gate = registers::title(view.gate?);
-    let mask = shut.iter().fold(0, |mask, field| mask | field.mask());
-    match bits(mask << view.shift) {
-        (0, _) => None,
-        (1, bit) => Some(format!("bit {bit} of {gate} is 0")),
-        (_, bits) => Some(format!("bits {bits} of {gate} are 0")),
+    let bits = shut.iter().map(|field| field.low + view.shift);
+    let bits: Vec<String> = bits.map(|bit| bit.to_string()).collect();
+    match bits.as_slice() {
+        [] => None,
+        [bit] => Some(format!("bit {bit} of {gate} is 0")),
+        _ => Some(format!("bits {} of {gate} are 0", bits.join(", "))),
     }
 }
 

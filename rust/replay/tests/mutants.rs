@@ -125,7 +125,7 @@ const MUTANTS: &[Mutant] = &[
     Mutant("views.rs", "HIP | HVIP => (MIP, 0, None),", "HIP | HVIP => (MIE, 0, None),"),
     Mutant("views.rs", "SSTATUS => (MSTATUS, 0, None),", ""),
     Mutant("views.rs", "view.shift & !open(hart, &view);", "view.shift;"),
-    Mutant("views.rs", "match bits(mask << view.shift) {", "match bits(mask) {"),
+    Mutant("views.rs", "field.low + view.shift", "field.low"),
     Mutant("views.rs", "if old == new {", "if old > new {"),
     Mutant("views.rs", "        0 => change,\n", "        1 => change,\n"),
     Mutant("writes.rs", "Writer::Own if field.is_constant() => Why::One,", ""),
