@@ -52,6 +52,10 @@ accessRow h own place row form w writes =
     let old : ℕ = seen h to in
     answer (settled h own (verdict (context h) row writes) no-value (done (written h to (combined form old w) writes))) old
 
+-- one that goes on (for a contract of code)
+abbrev pub goes : Hart → View → Form → ℕ → Bool → Accessed
+goes h to form w writes = answer (done (written h to (combined form (seen h to) w) writes)) (seen h to)
+
 -- an unlisted number: cause 2 in every mode, so that the step that would be done never is
 abbrev pub unlisted : Hart → ℕ → Accessed
 unlisted h own = answer (settled h own (gives true false) no-value (done h)) 0

@@ -5,7 +5,7 @@ ghost use Rattle.registers.specs.Places.{kept};
 ghost use Rattle.registers.specs.Views.{lets};
 ghost use Rattle.registers.specs.Registers.{count, at};
 ghost use Rattle.table.specs.Table.{rowOf, viewOf};
-ghost use Rattle.hart.specs.Access.{seen, written, valueOf, answer, accessRow, unlisted, access, read, write, set, clear};
+ghost use Rattle.hart.specs.Access.{valueOf, answer, goes, accessRow, unlisted, access, read, write, set, clear};
 use crate::event;
 use crate::event::Outcome;
 use crate::event::Step;
@@ -61,25 +61,22 @@ impl Hart {
         masks::WORD
     }
 
-    // What a read of a register shows.
-    fn seen(self, at: Kept) -> u64
+    // An access that goes on: it answers what the register shows and writes to its bits of a mask, where it writes; pc moves on.
+    fn goes(mut self, at: Kept, mask: u64, form: Form, w: u64, writes: bool) -> Accessed
         requires { ⌜ (at .home < kept) × (at .shift < 64) ⌝ }
-        ensures { λ r. ⌜ r ≡ seen self (viewOf at 0) ⌝ }
-    {
-        let home = at.home;
-        csr::show(at, self.gate(at), self.regs[home])
-    }
-
-    // x written to a register's bits of a mask, where the access writes; pc moves on.
-    fn written(mut self, at: Kept, mask: u64, x: u64, writes: bool) -> Hart
-        requires { ⌜ (at .home < kept) × (at .shift < 64) ⌝ }
-        ensures { λ r. ⌜ r ≡ written self (viewOf at mask) x writes ⌝ }
+        ensures { λ r. ⌜ r ≡ goes self (viewOf at mask) form w writes ⌝ }
     {
         let home = at.home;
         let gate = self.gate(at);
-        let old = self.regs[home];
-        self.regs[home] = csr::store(at, mask, gate, old, x, writes);
-        self.moved()
+        let word = self.regs[home];
+        let old = csr::show(at, gate, word);
+        let x = csr::combine(form, old, w);
+        self.regs[home] = csr::store(at, mask, gate, word, x, writes);
+        Accessed {
+            hart: self.moved(),
+            outcome: Outcome::Done,
+            value: old,
+        }
     }
 
     // An access to the register of a row of the table.
@@ -99,12 +96,7 @@ impl Hart {
         match stop {
             Stop::Goes => {
                 let to = table::kept::reach(place, self.v == 1);
-                let old = self.seen(to);
-                Accessed {
-                    hart: self.written(to, row.mask, csr::combine(form, old, w), writes),
-                    outcome: Outcome::Done,
-                    value: old,
-                }
+                self.goes(to, row.mask, form, w, writes)
             }
             Stop::Halts(refuses, number) => {
                 answer(self.halt(refuses, number, event::NO_VALUE), 0)

@@ -7,8 +7,8 @@ use lib.Dec.{eqb}
 use Rattle.bits.specs.Field.{top, get, put}
 use Rattle.bits.specs.Assign.{_after_, _:=_}
 use Rattle.bits.specs.Every.{every}
-use Rattle.registers.specs.Fields.{SIE, MIE}
-use Rattle.registers.specs.Places.{scause, vsstatus, vstvec, vsepc, vscause, mstatus, mideleg, mie, mtvec, mepc, mcause, mip, hideleg}
+use Rattle.registers.specs.Fields.{SIE, MIE, GVA}
+use Rattle.registers.specs.Places.{scause, vsstatus, vstvec, vsepc, vscause, mstatus, mideleg, mie, mtvec, mepc, mcause, mtval, mip, mtinst, mtval2, hideleg}
 use Rattle.registers.specs.Rules.{legal, stored}
 use Rattle.registers.specs.File.{Write, _↢_, _with_, registersPass}
 use Rattle.table.specs.Table.{firstAt}
@@ -39,6 +39,11 @@ shows first second = read (after-writes first second) second .value
 abbrev waiting : (v privilege bits mideleg hideleg mie sie vs : ℕ) → Hart
 waiting v p bits d h m s vs =
     in-mode v p (mip ↢ bits ∷ mie ↢ bits ∷ mideleg ↢ d ∷ hideleg ↢ h ∷ mstatus ↢ (0xA00000000 after (MIE := m ∷ SIE := s ∷ [])) ∷ vsstatus ↢ (0x200000000 after (SIE := vs ∷ [])) ∷ [])
+
+-- after an interrupt into M of a hart whose registers held something before
+abbrev telltale : Hart
+telltale =
+    interrupt (record { v = 0; privilege = 1; pc = 0; regs = waiting 0 1 0x80 0x444 0 0 0 0 .regs with (mtval ↢ 5 ∷ mtval2 ↢ 5 ∷ mtinst ↢ 5 ∷ mstatus ↢ (0xA00000000 after (GVA := 1 ∷ [])) ∷ []) }) .hart
 
 -- the interrupt that is taken; 0: none; 100 and more: refused
 abbrev taken : Hart → ℕ
@@ -88,6 +93,14 @@ cases =
     reg (interrupt (waiting 1 0 0x400 0x444 0x444 0 0 0) .hart) vscause gives (2 ^ 63 + 9) ∷
     reg (interrupt (waiting 1 0 0x400 0x444 0x444 0 0 0) .hart) vsepc gives 0x1000 ∷
     reg (interrupt (waiting 1 0 0x400 0x444 0x444 0 0 0) .hart) mip gives 0x400 ∷
+    -- pending alone and enabled alone are not enough
+    taken (in-mode 0 1 (mip ↢ 0x80 ∷ [])) gives 0 ∷
+    taken (in-mode 0 1 (mie ↢ 0x80 ∷ [])) gives 0 ∷
+    -- value, second value, word and flag are 0, whatever they were
+    reg telltale mtval gives 0 ∷
+    reg telltale mtval2 gives 0 ∷
+    reg telltale mtinst gives 0 ∷
+    get GVA (reg telltale mstatus) gives 0 ∷
     -- two at once: by order, and by level first
     taken (waiting 0 1 0x808 0x444 0 0 0 0) gives 11 ∷
     taken (waiting 0 0 0x202 0x666 0 0 0 0) gives 9 ∷
