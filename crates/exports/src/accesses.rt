@@ -6,18 +6,28 @@ ghost use Rattle.exports.specs.Calls.{onAccess};
 
 // Reads the register with a number.
 #[no_mangle]
-pub extern "C" fn balcumentri_read(h: &[u64], number: u64, out: &mut [u64]) -> u64
-    ensures { λ r. ⌜ (r, now (out .exit)) ≡ onAccess (λ (x : Hart). read x number) (now (h .entry)) (now (out .entry)) ⌝ }
+pub extern "C" fn balcumentri_read(h: &[u64], number: u64, word: u32, out: &mut [u64]) -> u64
+    ensures { λ r. ⌜ (r, now (out .exit)) ≡ onAccess (λ (x : Hart). read x number word) (now (h .entry)) (now (out .entry)) ⌝ }
 {
-    layout::put_access(layout::hart_of(h).read(number), h.len(), &mut *out)
+    layout::put_access(layout::hart_of(h).read(number, word), h.len(), &mut *out)
 }
 
 // Writes w to it.
 #[no_mangle]
-pub extern "C" fn balcumentri_write(h: &[u64], number: u64, w: u64, out: &mut [u64]) -> u64
-    ensures { λ r. ⌜ (r, now (out .exit)) ≡ onAccess (λ (x : Hart). write x number w) (now (h .entry)) (now (out .entry)) ⌝ }
+pub extern "C" fn balcumentri_write(
+    h: &[u64],
+    number: u64,
+    w: u64,
+    word: u32,
+    out: &mut [u64],
+) -> u64
+    ensures { λ r. ⌜ (r, now (out .exit)) ≡ onAccess (λ (x : Hart). write x number w word) (now (h .entry)) (now (out .entry)) ⌝ }
 {
-    layout::put_access(layout::hart_of(h).write(number, w), h.len(), &mut *out)
+    layout::put_access(
+        layout::hart_of(h).write(number, w, word),
+        h.len(),
+        &mut *out,
+    )
 }
 
 // Sets the bits of w in it, if the access writes.
@@ -27,12 +37,13 @@ pub extern "C" fn balcumentri_set(
     number: u64,
     w: u64,
     writes: bool,
+    word: u32,
     out: &mut [u64],
 ) -> u64
-    ensures { λ r. ⌜ (r, now (out .exit)) ≡ onAccess (λ (x : Hart). set x number w writes) (now (h .entry)) (now (out .entry)) ⌝ }
+    ensures { λ r. ⌜ (r, now (out .exit)) ≡ onAccess (λ (x : Hart). set x number w writes word) (now (h .entry)) (now (out .entry)) ⌝ }
 {
     layout::put_access(
-        layout::hart_of(h).set(number, w, writes),
+        layout::hart_of(h).set(number, w, writes, word),
         h.len(),
         &mut *out,
     )
@@ -45,12 +56,13 @@ pub extern "C" fn balcumentri_clear(
     number: u64,
     w: u64,
     writes: bool,
+    word: u32,
     out: &mut [u64],
 ) -> u64
-    ensures { λ r. ⌜ (r, now (out .exit)) ≡ onAccess (λ (x : Hart). clear x number w writes) (now (h .entry)) (now (out .entry)) ⌝ }
+    ensures { λ r. ⌜ (r, now (out .exit)) ≡ onAccess (λ (x : Hart). clear x number w writes word) (now (h .entry)) (now (out .entry)) ⌝ }
 {
     layout::put_access(
-        layout::hart_of(h).clear(number, w, writes),
+        layout::hart_of(h).clear(number, w, writes, word),
         h.len(),
         &mut *out,
     )

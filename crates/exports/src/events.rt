@@ -1,4 +1,4 @@
-// The events on a hart's words: each hands the next hart back, with what the event came to.
+// The events on a hart's words: each hands the next hart back, with what the event came to. An instruction that can give cause 2 or 22 has its own word.
 ghost use mathlib.Core.Path.{_≡_};
 ghost use Rattle.hart.specs.Trap.{trap, ecall, ebreak};
 ghost use Rattle.hart.specs.Interrupt.{interrupt};
@@ -49,50 +49,50 @@ pub extern "C" fn balcumentri_ebreak(h: &[u64], out: &mut [u64]) -> u64
 
 // MRET.
 #[no_mangle]
-pub extern "C" fn balcumentri_mret(h: &[u64], out: &mut [u64]) -> u64
-    ensures { λ r. ⌜ (r, now (out .exit)) ≡ onStep mret (now (h .entry)) (now (out .entry)) ⌝ }
+pub extern "C" fn balcumentri_mret(h: &[u64], word: u32, out: &mut [u64]) -> u64
+    ensures { λ r. ⌜ (r, now (out .exit)) ≡ onStep (λ (x : Hart). mret x word) (now (h .entry)) (now (out .entry)) ⌝ }
 {
-    layout::put_step(layout::hart_of(h).mret(), h.len(), &mut *out)
+    layout::put_step(layout::hart_of(h).mret(word), h.len(), &mut *out)
 }
 
 // SRET.
 #[no_mangle]
-pub extern "C" fn balcumentri_sret(h: &[u64], out: &mut [u64]) -> u64
-    ensures { λ r. ⌜ (r, now (out .exit)) ≡ onStep sret (now (h .entry)) (now (out .entry)) ⌝ }
+pub extern "C" fn balcumentri_sret(h: &[u64], word: u32, out: &mut [u64]) -> u64
+    ensures { λ r. ⌜ (r, now (out .exit)) ≡ onStep (λ (x : Hart). sret x word) (now (h .entry)) (now (out .entry)) ⌝ }
 {
-    layout::put_step(layout::hart_of(h).sret(), h.len(), &mut *out)
+    layout::put_step(layout::hart_of(h).sret(word), h.len(), &mut *out)
 }
 
 // WFI.
 #[no_mangle]
-pub extern "C" fn balcumentri_wfi(h: &[u64], out: &mut [u64]) -> u64
-    ensures { λ r. ⌜ (r, now (out .exit)) ≡ onStep wfi (now (h .entry)) (now (out .entry)) ⌝ }
+pub extern "C" fn balcumentri_wfi(h: &[u64], word: u32, out: &mut [u64]) -> u64
+    ensures { λ r. ⌜ (r, now (out .exit)) ≡ onStep (λ (x : Hart). wfi x word) (now (h .entry)) (now (out .entry)) ⌝ }
 {
-    layout::put_step(layout::hart_of(h).wfi(), h.len(), &mut *out)
+    layout::put_step(layout::hart_of(h).wfi(word), h.len(), &mut *out)
 }
 
 // SFENCE.VMA.
 #[no_mangle]
-pub extern "C" fn balcumentri_sfence_vma(h: &[u64], out: &mut [u64]) -> u64
-    ensures { λ r. ⌜ (r, now (out .exit)) ≡ onStep sfenceVma (now (h .entry)) (now (out .entry)) ⌝ }
+pub extern "C" fn balcumentri_sfence_vma(h: &[u64], word: u32, out: &mut [u64]) -> u64
+    ensures { λ r. ⌜ (r, now (out .exit)) ≡ onStep (λ (x : Hart). sfenceVma x word) (now (h .entry)) (now (out .entry)) ⌝ }
 {
-    layout::put_step(layout::hart_of(h).sfence_vma(), h.len(), &mut *out)
+    layout::put_step(layout::hart_of(h).sfence_vma(word), h.len(), &mut *out)
 }
 
 // HFENCE.VVMA.
 #[no_mangle]
-pub extern "C" fn balcumentri_hfence_vvma(h: &[u64], out: &mut [u64]) -> u64
-    ensures { λ r. ⌜ (r, now (out .exit)) ≡ onStep hfenceVvma (now (h .entry)) (now (out .entry)) ⌝ }
+pub extern "C" fn balcumentri_hfence_vvma(h: &[u64], word: u32, out: &mut [u64]) -> u64
+    ensures { λ r. ⌜ (r, now (out .exit)) ≡ onStep (λ (x : Hart). hfenceVvma x word) (now (h .entry)) (now (out .entry)) ⌝ }
 {
-    layout::put_step(layout::hart_of(h).hfence_vvma(), h.len(), &mut *out)
+    layout::put_step(layout::hart_of(h).hfence_vvma(word), h.len(), &mut *out)
 }
 
 // HFENCE.GVMA.
 #[no_mangle]
-pub extern "C" fn balcumentri_hfence_gvma(h: &[u64], out: &mut [u64]) -> u64
-    ensures { λ r. ⌜ (r, now (out .exit)) ≡ onStep hfenceGvma (now (h .entry)) (now (out .entry)) ⌝ }
+pub extern "C" fn balcumentri_hfence_gvma(h: &[u64], word: u32, out: &mut [u64]) -> u64
+    ensures { λ r. ⌜ (r, now (out .exit)) ≡ onStep (λ (x : Hart). hfenceGvma x word) (now (h .entry)) (now (out .entry)) ⌝ }
 {
-    layout::put_step(layout::hart_of(h).hfence_gvma(), h.len(), &mut *out)
+    layout::put_step(layout::hart_of(h).hfence_gvma(word), h.len(), &mut *out)
 }
 
 // Takes the interrupt that is due.

@@ -1,4 +1,4 @@
--- Register access (document 01, "Access").
+-- Register access (document 01, "Access"), with its instruction word (2026-02).
 use mathlib.Core.Bool.{Bool, true, false}
 use Prim.Native.Nat.{ℕ}
 use lib.Dec.{eqb}
@@ -20,7 +20,7 @@ use Rattle.hart.specs.declared.event.Outcome.the-variants.{Done, Trapped
 use Rattle.hart.specs.declared.event.Step.{Step}
 use Rattle.hart.specs.declared.access.Accessed.{Accessed}
 use Rattle.hart.specs.Hart.{reg, context}
-use Rattle.hart.specs.Event.{no-value, done, settled, next}
+use Rattle.hart.specs.Event.{done, settled, next}
 
 -- all answer the old value, a trap or refusal answers 0
 abbrev pub valueOf : Outcome → ℕ → ℕ
@@ -46,37 +46,37 @@ written h v x writes = record {
 }
 
 -- an access to the register of a row; own is the call's own refusal, or 0
-unfoldable pub accessRow : Hart → ℕ → ℕ → Row → Form → ℕ → Bool → Accessed
-accessRow h own place row form w writes =
+unfoldable pub accessRow : Hart → ℕ → ℕ → Row → Form → ℕ → Bool → (word : ℕ) → Accessed
+accessRow h own place row form w writes word =
     let to : View = reached (eqb (h .v) 1) (at place) in
     let old : ℕ = seen h to in
-    answer (settled h own (verdict (context h) row writes) no-value (done (written h to (combined form old w) writes))) old
+    answer (settled h own (verdict (context h) row writes) word (done (written h to (combined form old w) writes))) old
 
 -- one that goes on (for a contract of code)
 abbrev pub goes : Hart → View → Form → ℕ → Bool → Accessed
 goes h to form w writes = answer (done (written h to (combined form (seen h to) w) writes)) (seen h to)
 
 -- an unlisted number: cause 2 in every mode, so that the step that would be done never is
-abbrev pub unlisted : Hart → ℕ → Accessed
-unlisted h own = answer (settled h own (gives true false) no-value (done h)) 0
+abbrev pub unlisted : Hart → ℕ → (word : ℕ) → Accessed
+unlisted h own word = answer (settled h own (gives true false) word (done h)) 0
 
 -- the row that bears the number, or none
-abbrev pub accessFound : Found → Hart → ℕ → Form → ℕ → Bool → Accessed
-accessFound Nothing h own form w writes = unlisted h own
-accessFound (At place row) h own form w writes = accessRow h own place row form w writes
+abbrev pub accessFound : Found → Hart → ℕ → Form → ℕ → Bool → (word : ℕ) → Accessed
+accessFound Nothing h own form w writes word = unlisted h own word
+accessFound (At place row) h own form w writes word = accessRow h own place row form w writes word
 
-unfoldable pub access : Hart → Form → ℕ → ℕ → Bool → Accessed
-access h form number w writes = accessFound (firstAt table number 0) h (pick (overRange number) 5 0) form w writes
+unfoldable pub access : Hart → Form → ℕ → ℕ → Bool → (word : ℕ) → Accessed
+access h form number w writes word = accessFound (firstAt table number 0) h (pick (overRange number) 5 0) form w writes word
 
-abbrev pub read : Hart → ℕ → Accessed
-read h number = access h Read number 0 false
+abbrev pub read : Hart → ℕ → (word : ℕ) → Accessed
+read h number word = access h Read number 0 false word
 
-abbrev pub write : Hart → ℕ → ℕ → Accessed
-write h number w = access h Write number w true
+abbrev pub write : Hart → ℕ → ℕ → (word : ℕ) → Accessed
+write h number w word = access h Write number w true word
 
 -- the last two with a flag saying whether they write
-abbrev pub set : Hart → ℕ → ℕ → Bool → Accessed
-set h number w writes = access h Set number w writes
+abbrev pub set : Hart → ℕ → ℕ → Bool → (word : ℕ) → Accessed
+set h number w writes word = access h Set number w writes word
 
-abbrev pub clear : Hart → ℕ → ℕ → Bool → Accessed
-clear h number w writes = access h Clear number w writes
+abbrev pub clear : Hart → ℕ → ℕ → Bool → (word : ℕ) → Accessed
+clear h number w writes word = access h Clear number w writes word

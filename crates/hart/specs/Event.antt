@@ -1,5 +1,5 @@
 -- What an event comes to, and the order in which it is settled (document 01, "When the model says no").
-use mathlib.Core.Bool.{Bool, true, false, not}
+use mathlib.Core.Bool.{true, false, not}
 use Prim.Native.Nat.{ℕ, _+_, _%_, _^_}
 use lib.Dec.{eqb}
 use Rattle.bits.specs.Field.{pick}
@@ -39,12 +39,13 @@ trapped h t = step (delivered h t) (Trapped (t .cause))
 abbrev pub plain : (cause value : ℕ) → Exception
 plain cause value = record { cause = cause; value = value; value2 = 0; word = 0; flag = false }
 
--- "Causes 2 and 22 raised by the model have value 0."
-abbrev pub no-value : ℕ
-no-value = 0
+-- "Causes 2 and 22 raised by a register access, return, WFI or fence carry the 32-bit instruction word as the value." (2026-02)
+abbrev pub raised : Hart → (cause word : ℕ) → Step
+raised h cause word = trapped h (plain cause word)
 
-abbrev pub raised : Hart → (cause value : ℕ) → Step
-raised h cause value = trapped h (plain cause value)
+-- an event that has no word, and gives neither 2 nor 22: environment call, breakpoint, trap request, interrupt
+abbrev pub no-word : ℕ
+no-word = 0
 
 -- a refusal, or a cause that is raised
 abbrev pub refuses : ℕ → Stop
@@ -61,13 +62,13 @@ stopOf h own verdict =
     (pick (verdict .gives2) (raises 2)
     (pick (verdict .gives22) (raises 22) Goes)))
 
--- a cause is raised with its value; else the step that is done
-abbrev pub settledBy : Stop → Hart → (value : ℕ) → Step → Step
-settledBy Goes h value finished = finished
-settledBy (Halts refuses number) h value finished = pick refuses (refused h number) (raised h number value)
+-- a cause is raised with the word; else the step that is done
+abbrev pub settledBy : Stop → Hart → (word : ℕ) → Step → Step
+settledBy Goes h word finished = finished
+settledBy (Halts refuses number) h word finished = pick refuses (refused h number) (raised h number word)
 
-unfoldable pub settled : Hart → (own : ℕ) → Verdict → (value : ℕ) → Step → Step
-settled h own verdict value finished = settledBy (stopOf h own verdict) h value finished
+unfoldable pub settled : Hart → (own : ℕ) → Verdict → (word : ℕ) → Step → Step
+settled h own verdict word finished = settledBy (stopOf h own verdict) h word finished
 
 -- an instruction moves pc on by 4, wrapping
 abbrev pub next : ℕ → ℕ

@@ -1,5 +1,6 @@
--- MRET and SRET (document 01, "Traps and returns").
+-- MRET and SRET (document 01, "Traps and returns"), each with its instruction word (2026-02).
 use mathlib.Core.List.{List, [], _∷_}
+use Prim.Native.Nat.{ℕ}
 use lib.Dec.{eqb}
 use Rattle.bits.specs.Field.{pick, get}
 use Rattle.bits.specs.Assign.{_after_}
@@ -11,7 +12,7 @@ use Rattle.hart.specs.declared.state.Hart.{Hart}
 use Rattle.hart.specs.declared.event.Step.{Step}
 use Rattle.registers.specs.File.{Write, _↢_, _with_}
 use Rattle.hart.specs.Hart.{reg, context}
-use Rattle.hart.specs.Event.{no-value, done, settled}
+use Rattle.hart.specs.Event.{done, settled}
 
 -- MRET: pc = mepc, privilege = MPP, V = MPV unless MPP=3 (then 0); mstatus
 abbrev pub writesMRET : Hart → List Write
@@ -42,8 +43,8 @@ returnedVS h = record { v = 1; privilege = get SPP (reg h vsstatus); pc = reg h 
 abbrev pub returnedS : Hart → Hart
 returnedS h = pick (eqb (h .v) 1) (returnedVS h) (returnedHS h)
 
-unfoldable pub mret : Hart → Step
-mret h = settled h 0 (instructions.mret (context h)) no-value (done (returnedM h))
+unfoldable pub mret : Hart → (word : ℕ) → Step
+mret h word = settled h 0 (instructions.mret (context h)) word (done (returnedM h))
 
-unfoldable pub sret : Hart → Step
-sret h = settled h 0 (instructions.sret (context h)) no-value (done (returnedS h))
+unfoldable pub sret : Hart → (word : ℕ) → Step
+sret h word = settled h 0 (instructions.sret (context h)) word (done (returnedS h))

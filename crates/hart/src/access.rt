@@ -6,7 +6,6 @@ ghost use Rattle.registers.specs.Views.{lets};
 ghost use Rattle.registers.specs.Registers.{count, at};
 ghost use Rattle.table.specs.Table.{rowOf, viewOf};
 ghost use Rattle.hart.specs.Access.{valueOf, answer, goes, accessRow, unlisted, access, read, write, set, clear};
-use crate::event;
 use crate::event::Outcome;
 use crate::event::Step;
 use crate::event::Stop;
@@ -88,9 +87,10 @@ impl Hart {
         form: Form,
         w: u64,
         writes: bool,
+        word: u32,
     ) -> Accessed
         requires { ⌜ (place < count) × (row ≡ rowOf (at place)) ⌝ }
-        ensures { λ r. ⌜ r ≡ accessRow self own place row form w writes ⌝ }
+        ensures { λ r. ⌜ r ≡ accessRow self own place row form w writes word ⌝ }
     {
         let stop = self.stops(own, csr::verdict(self.context(), row, writes));
         match stop {
@@ -98,15 +98,13 @@ impl Hart {
                 let to = table::kept::reach(place, self.v == 1);
                 self.goes(to, row.mask, form, w, writes)
             }
-            Stop::Halts(refuses, number) => {
-                answer(self.halt(refuses, number, event::NO_VALUE), 0)
-            }
+            Stop::Halts(refuses, number) => { answer(self.halt(refuses, number, word), 0) }
         }
     }
 
     // An access to a number that no register has.
-    fn unlisted(self, own: u64) -> Accessed
-        ensures { λ r. ⌜ r ≡ unlisted self own ⌝ }
+    fn unlisted(self, own: u64, word: u32) -> Accessed
+        ensures { λ r. ⌜ r ≡ unlisted self own word ⌝ }
     {
         let verdict = Verdict {
             gives2: true,
@@ -121,45 +119,43 @@ impl Hart {
                     value: 0,
                 }
             }
-            Stop::Halts(refuses, number) => {
-                answer(self.halt(refuses, number, event::NO_VALUE), 0)
-            }
+            Stop::Halts(refuses, number) => { answer(self.halt(refuses, number, word), 0) }
         }
     }
 
     // An access to the register with a number.
-    fn access(self, form: Form, number: u64, w: u64, writes: bool) -> Accessed
-        ensures { λ r. ⌜ r ≡ access self form number w writes ⌝ }
+    fn access(self, form: Form, number: u64, w: u64, writes: bool, word: u32) -> Accessed
+        ensures { λ r. ⌜ r ≡ access self form number w writes word ⌝ }
     {
         let own = csr::refusal(number);
         let found = table::lookup(number);
         let Found::At(place, row) = found else {
-            return self.unlisted(own);
+            return self.unlisted(own, word);
         };
-        self.access_row(own, place, row, form, w, writes)
+        self.access_row(own, place, row, form, w, writes, word)
     }
 
-    pub fn read(self, number: u64) -> Accessed
-        ensures { λ r. ⌜ r ≡ read self number ⌝ }
+    pub fn read(self, number: u64, word: u32) -> Accessed
+        ensures { λ r. ⌜ r ≡ read self number word ⌝ }
     {
-        self.access(Form::Read, number, 0, false)
+        self.access(Form::Read, number, 0, false, word)
     }
 
-    pub fn write(self, number: u64, w: u64) -> Accessed
-        ensures { λ r. ⌜ r ≡ write self number w ⌝ }
+    pub fn write(self, number: u64, w: u64, word: u32) -> Accessed
+        ensures { λ r. ⌜ r ≡ write self number w word ⌝ }
     {
-        self.access(Form::Write, number, w, true)
+        self.access(Form::Write, number, w, true, word)
     }
 
-    pub fn set(self, number: u64, w: u64, writes: bool) -> Accessed
-        ensures { λ r. ⌜ r ≡ set self number w writes ⌝ }
+    pub fn set(self, number: u64, w: u64, writes: bool, word: u32) -> Accessed
+        ensures { λ r. ⌜ r ≡ set self number w writes word ⌝ }
     {
-        self.access(Form::Set, number, w, writes)
+        self.access(Form::Set, number, w, writes, word)
     }
 
-    pub fn clear(self, number: u64, w: u64, writes: bool) -> Accessed
-        ensures { λ r. ⌜ r ≡ clear self number w writes ⌝ }
+    pub fn clear(self, number: u64, w: u64, writes: bool, word: u32) -> Accessed
+        ensures { λ r. ⌜ r ≡ clear self number w writes word ⌝ }
     {
-        self.access(Form::Clear, number, w, writes)
+        self.access(Form::Clear, number, w, writes, word)
     }
 }

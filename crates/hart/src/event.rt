@@ -31,8 +31,8 @@ pub const ALLOWED: Verdict = Verdict {
     gives22: false,
 };
 
-// The value of causes 2 and 22 that the model raises.
-pub const NO_VALUE: u64 = 0;
+// An event that has no instruction word, and gives no cause of its own.
+pub const NO_WORD: u32 = 0;
 
 // A cause and its value, the flag clear.
 pub fn plain(cause: u64, value: u64) -> Exception
@@ -79,9 +79,9 @@ impl Hart {
         Stop::Goes
     }
 
-    // An event that does not go on: it is refused with a number, or raises a cause with its value.
-    pub fn halt(self, refuses: bool, number: u64, value: u64) -> Step
-        ensures { λ r. ⌜ r ≡ pick refuses (refused self number) (raised self number value) ⌝ }
+    // An event that does not go on: it is refused with a number, or raises a cause with its instruction word.
+    pub fn halt(self, refuses: bool, number: u64, word: u32) -> Step
+        ensures { λ r. ⌜ r ≡ pick refuses (refused self number) (raised self number word) ⌝ }
     {
         if refuses {
             return Step {
@@ -89,7 +89,7 @@ impl Hart {
                 outcome: Outcome::Refused(number),
             };
         }
-        self.take_trap(plain(number, value))
+        self.take_trap(plain(number, word as u64))
     }
 
     // pc moves on by 4, wrapping.

@@ -1,7 +1,6 @@
 // MRET and SRET.
 ghost use mathlib.Core.Path.{_≡_};
 ghost use Rattle.hart.specs.Return.{returnedM, returnedHS, returnedVS, returnedS, mret, sret};
-use crate::event;
 use crate::event::Outcome;
 use crate::event::Step;
 use crate::event::Stop;
@@ -56,8 +55,8 @@ impl Hart {
         self.return_hs()
     }
 
-    pub fn mret(self) -> Step
-        ensures { λ r. ⌜ r ≡ mret self ⌝ }
+    pub fn mret(self, word: u32) -> Step
+        ensures { λ r. ⌜ r ≡ mret self word ⌝ }
     {
         let stop = self.stops(0, instructions::mret(self.context()));
         match stop {
@@ -67,12 +66,12 @@ impl Hart {
                     outcome: Outcome::Done,
                 }
             }
-            Stop::Halts(refuses, number) => self.halt(refuses, number, event::NO_VALUE),
+            Stop::Halts(refuses, number) => self.halt(refuses, number, word),
         }
     }
 
-    pub fn sret(self) -> Step
-        ensures { λ r. ⌜ r ≡ sret self ⌝ }
+    pub fn sret(self, word: u32) -> Step
+        ensures { λ r. ⌜ r ≡ sret self word ⌝ }
     {
         let stop = self.stops(0, instructions::sret(self.context()));
         match stop {
@@ -82,7 +81,7 @@ impl Hart {
                     outcome: Outcome::Done,
                 }
             }
-            Stop::Halts(refuses, number) => self.halt(refuses, number, event::NO_VALUE),
+            Stop::Halts(refuses, number) => self.halt(refuses, number, word),
         }
     }
 }

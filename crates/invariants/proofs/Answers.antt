@@ -39,12 +39,12 @@ pub record Answers (o : Outcome) (value : ℕ) : Type 0 where
 answers : (o : Outcome) (old : ℕ) → Answers o (valueOf o old)
 answers o old = record { trapped = λ cause e. rw e; refused = λ number e. rw e }
 
-found-answers : (found : Found) (h : Hart) (own : ℕ) (form : Form) (w : ℕ) (b : Bool) → Answers (accessFound found h own form w b .outcome) (accessFound found h own form w b .value)
+found-answers : (found : Found) (h : Hart) (own : ℕ) (form : Form) (w : ℕ) (b : Bool) (word : ℕ) → Answers (accessFound found h own form w b word .outcome) (accessFound found h own form w b word .value)
 unfolding accessRow
-found-answers Nothing h own form w b = answers _ 0
-found-answers (At place row) h own form w b = answers _ _
+found-answers Nothing h own form w b word = answers _ 0
+found-answers (At place row) h own form w b word = answers _ _
 
 -- an access that traps or is refused answers 0
-pub access-answers : (h : Hart) (form : Form) (number w : ℕ) (b : Bool) → Answers (access h form number w b .outcome) (access h form number w b .value)
+pub access-answers : (h : Hart) (form : Form) (number w : ℕ) (b : Bool) (word : ℕ) → Answers (access h form number w b word .outcome) (access h form number w b word .value)
 unfolding access
-access-answers h form number w b = found-answers (firstAt table number 0) h _ form w b
+access-answers h form number w b word = found-answers (firstAt table number 0) h _ form w b word

@@ -14,7 +14,8 @@ use Rattle.table.specs.Table.{rowOf, table, firstAt, reached}
 use Rattle.table.proofs.Listed.{lookup-found}
 use Rattle.privilege.specs.declared.Verdict.{Verdict}
 use Rattle.exceptions.specs.declared.Exception.{Exception}
-use Rattle.privilege.specs.Mode.{isM}
+use Rattle.privilege.specs.Mode.{isM, gives}
+use Rattle.instructions.specs.Instructions as instructions
 use Rattle.csr.specs.Access.{verdict}
 use Rattle.delivery.specs.Delivery.{callCause, breakpoint}
 use Rattle.hart.specs.declared.state.Hart.{Hart}
@@ -30,10 +31,10 @@ use Rattle.hart.specs.Deliver.{deliveredTo}
 use Rattle.hart.specs.Event.{step, done, refused, trapped, plain, moved, settled}
 use Rattle.hart.specs.Interrupt.{taking, interrupt}
 use Rattle.hart.specs.Trap.{trap, ecall, ebreak}
-use Rattle.hart.specs.Return.{returnedM, returnedHS, returnedVS, mret, sret}
-use Rattle.hart.specs.Wait.{wfi, sfenceVma, hfenceVvma, hfenceGvma}
+use Rattle.hart.specs.Return.{returnedM, returnedHS, returnedVS, returnedS, mret, sret}
+use Rattle.hart.specs.Wait.{passing, wfi, sfenceVma, hfenceVvma, hfenceGvma}
 use Rattle.hart.specs.Access.{written, accessRow, accessFound, access}
-use Rattle.invariants.specs.Events.{Event, stepOf, run}
+use Rattle.invariants.specs.Events.{Instruction, Event, stepOf, executed, run}
 use Rattle.invariants.specs.Events as events
 use Rattle.invariants.proofs.Settled.{settled-cases}
 
@@ -59,40 +60,68 @@ pub data Comes (h : Hart) : Step → Type 0 where
   rests : passes h ≡ true → Comes h (done h)
 
 -- an event whose finished step is one of them
-comes-settled : (h : Hart) (own : ℕ) (v : Verdict) (value : ℕ) (finished : Step) → (passes h ≡ true → Allowed v → Comes h finished) → Comes h (settled h own v value finished)
-comes-settled h own v value finished d =
-    settled-cases (Comes h) h own v value finished refuses (λ p cause. traps p (plain cause value)) (λ p o a b. d p (record { not2 = a; not22 = b }))
+comes-settled : (h : Hart) (own : ℕ) (v : Verdict) (word : ℕ) (finished : Step) → (passes h ≡ true → Allowed v → Comes h finished) → Comes h (settled h own v word finished)
+comes-settled h own v word finished d =
+    settled-cases (Comes h) h own v word finished refuses (λ p cause w. traps p (plain cause word)) (λ p o a b. d p (record { not2 = a; not22 = b }))
+
+-- ---- instructions
+
+-- an instruction's own refusal, its verdict and the hart where it is done: its word has no part in them
+pub record Settles (h : Hart) (event : (word : ℕ) → Step) : Type 0 where
+  pub own : ℕ
+  pub verdict : Verdict
+  pub finished : Hart
+  pub settles : (word : ℕ) → event word ≡ settled h own verdict word (done finished)
+  pub comes : passes h ≡ true → Allowed verdict → Comes h (done finished)
 
 comes-sret : (h : Hart) → passes h ≡ true → (b : Bool) → eqb (h .v) 1 ≡ b → Comes h (done (Rattle.bits.specs.Field.pick b (returnedVS h) (returnedHS h)))
 comes-sret h p true e = srets-VS p (eqb-true _ _ e)
 comes-sret h p false e = srets-HS p e
 
-comes-row : (h : Hart) (own place : ℕ) (row : Row) (form : Form) (w : ℕ) (b : Bool) → place < count → row ≡ rowOf (at place) → Comes h (stepOf (accessRow h own place row form w b))
-unfolding accessRow
-comes-row h own place row form w b l e =
-    subst (λ (r : Row). Comes h (stepOf (unfold accessRow in accessRow h own place r form w b))) (sym e)
-    (comes-settled h own _ _ _ (λ p a. writes p place l b a _))
+settles-passing : (h : Hart) (v : Verdict) → Settles h (passing h v)
+settles-passing h v = record { own = 0; verdict = v; finished = moved h; settles = λ word. refl; comes = λ p a. moves p }
 
-comes-access : (found : Found) (h : Hart) (number own : ℕ) (form : Form) (w : ℕ) (b : Bool) → firstAt table number 0 ≡ found → Comes h (stepOf (accessFound found h own form w b))
-comes-access Nothing h number own form w b e = comes-settled h own _ _ _ (λ p a. clash (sym (a .not2)))
-comes-access (At place row) h number own form w b e =
+settles-row : (h : Hart) (own place : ℕ) (row : Row) (form : Form) (w : ℕ) (b : Bool) → place < count → row ≡ rowOf (at place) → Settles h (λ word. stepOf (accessRow h own place row form w b word))
+unfolding accessRow
+settles-row h own place row form w b l e =
+    record {
+      own = own;
+      verdict = verdict (context h) row b;
+      finished = written h (reaches h place) _ b;
+      settles = λ word. refl;
+      comes = λ p a. writes p place l b (subst (λ (r : Row). Allowed (verdict (context h) r b)) e a) _;
+    }
+
+settles-found : (found : Found) (h : Hart) (number own : ℕ) (form : Form) (w : ℕ) (b : Bool) → firstAt table number 0 ≡ found → Settles h (λ word. stepOf (accessFound found h own form w b word))
+settles-found Nothing h number own form w b e = record { own = own; verdict = gives true false; finished = h; settles = λ word. refl; comes = λ p a. clash (sym (a .not2)) }
+settles-found (At place row) h number own form w b e =
     let l = lookup-found number place row e in
-    comes-row h own place row form w b (l .below) (l .row)
+    settles-row h own place row form w b (l .below) (l .row)
+
+pub settles-as : (i : Instruction) (h : Hart) → Settles h (executed i h)
+unfolding mret sret wfi sfenceVma hfenceVvma hfenceGvma access
+settles-as events.mret h =
+    record { own = 0; verdict = instructions.mret (context h); finished = returnedM h; settles = λ word. refl; comes = λ p a. mrets p (not-false _ (a .not2)) }
+settles-as events.sret h =
+    record { own = 0; verdict = instructions.sret (context h); finished = returnedS h; settles = λ word. refl; comes = λ p a. comes-sret h p (eqb (h .v) 1) refl }
+settles-as events.wfi h = settles-passing h (instructions.wfi (context h))
+settles-as events.sfence-vma h = settles-passing h (instructions.sfenceVma (context h))
+settles-as events.hfence-vvma h = settles-passing h (instructions.hfenceVvma (context h))
+settles-as events.hfence-gvma h = settles-passing h (instructions.hfenceGvma (context h))
+settles-as (events.access form number w b) h = settles-found (firstAt table number 0) h number _ form w b refl
+
+-- ---- every event
 
 comes-taking : (h : Hart) → passes h ≡ true → (d : Due) → chosen (context h) (lines h) ≡ d → Comes h (taking h d)
 comes-taking h p (To to n) e = interrupts p to n e
 comes-taking h p Nothing e = rests p
 
 pub comes : (e : Event) (h : Hart) → Comes h (run e h)
-unfolding run trap ecall ebreak mret sret wfi sfenceVma hfenceVvma hfenceGvma interrupt access
+unfolding run trap ecall ebreak interrupt
+comes (events.executes i word) h =
+    let s = settles-as i h in
+    subst (Comes h) (sym (s .settles word)) (comes-settled h (s .own) (s .verdict) word (done (s .finished)) (s .comes))
 comes (events.trap t) h = comes-settled h _ _ _ _ (λ p a. traps p t)
 comes events.ecall h = comes-settled h 0 _ _ _ (λ p a. traps p (plain (callCause (context h)) 0))
 comes events.ebreak h = comes-settled h 0 _ _ _ (λ p a. traps p (breakpoint (h .v) (h .pc)))
-comes events.mret h = comes-settled h 0 _ _ _ (λ p a. mrets p (not-false _ (a .not2)))
-comes events.sret h = comes-settled h 0 _ _ _ (λ p a. comes-sret h p (eqb (h .v) 1) refl)
-comes events.wfi h = comes-settled h 0 _ _ _ (λ p a. moves p)
-comes events.sfence-vma h = comes-settled h 0 _ _ _ (λ p a. moves p)
-comes events.hfence-vvma h = comes-settled h 0 _ _ _ (λ p a. moves p)
-comes events.hfence-gvma h = comes-settled h 0 _ _ _ (λ p a. moves p)
 comes events.interrupt h = comes-settled h 0 _ _ _ (λ p a. comes-taking h p (chosen (context h) (lines h)) refl)
-comes (events.access form number w b) h = comes-access (firstAt table number 0) h number _ form w b refl

@@ -174,19 +174,19 @@ module _ (h : Hart) (size : length (h .regs) ≡ kept) (word : reg h hideleg < 2
   guest-within e = stays-within (run e h) (comes e h)
 
 -- an access that is done keeps the privilege too
-settled-keeps : (h : Hart) (own : ℕ) (v : Verdict) (value : ℕ) (h′ : Hart) → h′ .privilege ≡ h .privilege
-    → settled h own v value (done h′) .outcome ≡ Done → settled h own v value (done h′) .hart .privilege ≡ h .privilege
-settled-keeps h own v value h′ k =
-    settled-cases (λ (s : Step). s .outcome ≡ Done → s .hart .privilege ≡ h .privilege) h own v value (done h′) (λ n z e. refl)
-    (λ p cause e. clash (cc)) (λ p o a b e. k)
+settled-keeps : (h : Hart) (own : ℕ) (v : Verdict) (word : ℕ) (h′ : Hart) → h′ .privilege ≡ h .privilege
+    → settled h own v word (done h′) .outcome ≡ Done → settled h own v word (done h′) .hart .privilege ≡ h .privilege
+settled-keeps h own v word h′ k =
+    settled-cases (λ (s : Step). s .outcome ≡ Done → s .hart .privilege ≡ h .privilege) h own v word (done h′) (λ n z e. refl)
+    (λ p cause c e. clash (cc)) (λ p o a b e. k)
 
-found-keeps : (found : Found) (h : Hart) (own : ℕ) (form : Form) (w : ℕ) (b : Bool) → accessFound found h own form w b .outcome ≡ Done → accessFound found h own form w b .hart .privilege ≡ h .privilege
+found-keeps : (found : Found) (h : Hart) (own : ℕ) (form : Form) (w : ℕ) (b : Bool) (word : ℕ) → accessFound found h own form w b word .outcome ≡ Done → accessFound found h own form w b word .hart .privilege ≡ h .privilege
 unfolding accessRow written
-found-keeps Nothing h own form w b = settled-keeps h own _ _ h refl
-found-keeps (At place row) h own form w b =
+found-keeps Nothing h own form w b word = settled-keeps h own _ _ h refl
+found-keeps (At place row) h own form w b word =
     let to = reaches h place in
     settled-keeps h own _ _ (written h to (combined form (seen h to) w) b) refl
 
-pub access-keeps-privilege : (h : Hart) (form : Form) (number w : ℕ) (b : Bool) → access h form number w b .outcome ≡ Done → access h form number w b .hart .privilege ≡ h .privilege
+pub access-keeps-privilege : (h : Hart) (form : Form) (number w : ℕ) (b : Bool) (word : ℕ) → access h form number w b word .outcome ≡ Done → access h form number w b word .hart .privilege ≡ h .privilege
 unfolding access
-access-keeps-privilege h form number w b = found-keeps (firstAt table number 0) h _ form w b
+access-keeps-privilege h form number w b word = found-keeps (firstAt table number 0) h _ form w b word

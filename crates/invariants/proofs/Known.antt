@@ -40,9 +40,13 @@ infix 70 _gives_
 abbrev pub _gives_ : ℕ → ℕ → Replay
 a gives k = record { answer = a; expected = k }
 
+-- an instruction word that is not asked for
+abbrev pub any-word : ℕ
+any-word = 0
+
 -- all ones written to a register of a reset hart in M, and read back
 abbrev pub all-ones : ℕ → ℕ
-all-ones number = read (write (reset 0 3 0) number top .hart) number .value
+all-ones number = read (write (reset 0 3 0) number top any-word .hart) number any-word .value
 
 abbrev cause : Accessed → ℕ
 cause a = of (a .outcome)
@@ -59,7 +63,7 @@ stays = record { v = 0; privilege = 3; pc = 0; regs = reset 0 3 0 .regs with (ms
 
 -- in VS, with hgatp written: Sv39x4, root PPN 80004; vsatp is Bare
 abbrev guest-hart : Hart
-guest-hart = record { v = 1; privilege = 1; pc = 0; regs = write (reset 0 3 0) 0x680 0x8000000000080004 .hart .regs }
+guest-hart = record { v = 1; privilege = 1; pc = 0; regs = write (reset 0 3 0) 0x680 0x8000000000080004 any-word .hart .regs }
 
 -- its load of a byte at a guest physical address, over an image of zero entries everywhere
 abbrev probe : ℕ → Ran (Result Machine)
@@ -95,10 +99,10 @@ replays =
     all-ones 0x100 gives 0x2000C0122 ∷  -- sstatus
     all-ones 0x300 gives 0xCA007E19AA ∷  -- mstatus
     all-ones 0x680 gives 0x03FFFFFFFFFFFFFC ∷  -- hgatp
-    cause (read (reset 1 1 0) 0xE12) gives 22 ∷  -- hgeip in VS
-    cause (write (reset 1 1 0) 0xE12 0) gives 2 ∷
-    mret stays .hart .v gives 0 ∷  -- MRET stays in M
-    mret stays .hart .privilege gives 3 ∷ []
+    cause (read (reset 1 1 0) 0xE12 any-word) gives 22 ∷  -- hgeip in VS
+    cause (write (reset 1 1 0) 0xE12 0 any-word) gives 2 ∷
+    mret stays any-word .hart .v gives 0 ∷  -- MRET stays in M
+    mret stays any-word .hart .privilege gives 3 ∷ []
 
 pub known : every (λ i (r : Replay). eqb (r .answer) (r .expected)) 0 replays ≡ true
 unfolding every get put legal stored firstAt registersPass passes deliveredM deliveredHS deliveredVS delivered settled returnedM mret written accessRow access firstRoot secondRoot accessOf run bind walkOf final begin down inspect follow index extended small judged malformed badPointer badLeaf faulty

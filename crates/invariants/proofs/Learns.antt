@@ -50,7 +50,7 @@ use Rattle.hart.specs.declared.event.Step.{Step}
 use Rattle.hart.specs.declared.access.Accessed.{Accessed}
 use Rattle.hart.specs.Hart.{reg, context, lines}
 use Rattle.hart.specs.Deliver.{writesM, writesHS, writesVS, deliveredM, deliveredHS, deliveredVS, deliveredTo, delivered}
-use Rattle.hart.specs.Event.{step, trapped, no-value, plain, done, refuses, raises, settledBy, settled, moved, next}
+use Rattle.hart.specs.Event.{step, trapped, plain, done, refuses, raises, settledBy, settled, moved, next}
 use Rattle.hart.specs.declared.event.Stop.the-variants.{Goes}
 use Rattle.hart.specs.Trap.{trap, ecall, ebreak}
 use Rattle.hart.specs.Interrupt.{taking, interrupt}
@@ -66,7 +66,7 @@ use Rattle.invariants.specs.Events.{Event, stepOf, run}
 use Rattle.invariants.specs.Events as events
 use Rattle.invariants.specs.Learns.{guest, shared, SameHanded, Runs, Alike, Undisturbed, Same, SameTables, SameTranslated}
 use Rattle.invariants.proofs.Mode.{passing}
-use Rattle.invariants.proofs.Writes.{allIn, outside-kept}
+use Rattle.invariants.proofs.Writes.{allIn, outside-kept, lands, with-alike}
 use Rattle.invariants.proofs.Settled.{settled-cases}
 use Rattle.invariants.proofs.Comes.{Allowed, reaches}
 use Rattle.invariants.proofs.Guest.{Own, Lent, reached-guest, shared-kept, lent-gate}
@@ -97,23 +97,6 @@ down-delegated x y n p q b t =
     let k : has n (top - 0x444) ≡ false = and-rest (has n x) (has n (top - 0x444)) t (e ∙ z) in
     let m : has n 0x444 ≡ true = not-false (has n 0x444) (sym (has-not n 0x444 b (omega arith)) ∙ k) in
     and-left (has n y) (has n (top - 0x222)) (sym (has-and n y (top - 0x222)) ∙ ap (has n) (eqb-true _ _ q) ∙ m)
-
--- ---- one and the same write to registers that agree at a place
-
-set-same : (rs rs′ : List ℕ) (q x p : ℕ) → length rs ≡ length rs′ → q < length rs → getD rs p 0 ≡ getD rs′ p 0 → getD (set rs q x) p 0 ≡ getD (set rs′ q x) p 0
-set-same rs rs′ q x p l b e = go (eqb p q) refl
-  where
-    go : (t : Bool) → eqb p q ≡ t → getD (set rs q x) p 0 ≡ getD (set rs′ q x) p 0
-    go true i = rw (eqb-true p q i) (getD-set-same rs q x 0 b ∙ sym (getD-set-same rs′ q x 0 (omega arith)))
-    go false i = getD-set-other rs q p x 0 (eqb-false p q i) ∙ e ∙ sym (getD-set-other rs′ q p x 0 (eqb-false p q i))
-
-with-same : (ws : List Write) (rs rs′ : List ℕ) (p : ℕ) → length rs ≡ kept → length rs′ ≡ kept → allIn (λ q. ltb q kept) ws ≡ true → getD rs p 0 ≡ getD rs′ p 0
-    → getD (rs with ws) p 0 ≡ getD (rs′ with ws) p 0
-with-same [] rs rs′ p l l′ t e = e
-with-same (w ∷ ws) rs rs′ p l l′ t e =
-    split (ltb (w .place) kept) (allIn (λ q. ltb q kept) ws) t (λ b more.
-    with-same ws (set rs (w .place) (w .value)) (set rs′ (w .place) (w .value)) p (length-set rs _ _ ∙ l) (length-set rs′ _ _ ∙ l′) more
-    (set-same rs rs′ (w .place) (w .value) p (l ∙ sym l′) (subst (λ (n : ℕ). w .place < n) (sym l) (ltb-true _ _ b)) e))
 
 -- ---- what is due
 
@@ -147,7 +130,7 @@ module _ (h h′ : Hart) (a : Alike h h′) where
   into-host ws ws′ t t′ p g = outside-kept host ws (h .regs) t p (ap not g) ∙ a .guest p g ∙ sym (outside-kept host ws′ (h′ .regs) t′ p (ap not g))
 
   into-guest : (ws ws′ : List Write) → ws ≡ ws′ → allIn (λ q. ltb q kept) ws ≡ true → (p : ℕ) → guest p ≡ true → getD (h .regs with ws) p 0 ≡ getD (h′ .regs with ws′) p 0
-  into-guest ws ws′ e t p g = rw (← e) (with-same ws (h .regs) (h′ .regs) p (a .left .size) (a .right .size) t (a .guest p g))
+  into-guest ws ws′ e t p g = rw (← e) (with-alike ws ws (h .regs) (h′ .regs) p (a .left .size) (a .right .size) t t (ap (lands ws p) (a .guest p g)))
 
   -- the registers of interrupts are not written
   stay-handed : (ws ws′ : List Write) → allIn aside ws ≡ true → allIn aside ws′ ≡ true → SameHanded (h .regs with ws) (h′ .regs with ws′)
@@ -200,15 +183,15 @@ module _ (h h′ : Hart) (a : Alike h h′) where
   as-they-were : (o : Outcome) → Same (step h o) (step h′ o)
   as-they-were o = record { outcome = refl; v = a .left .v ∙ sym (a .right .v); privilege = a .privilege; guest = a .guest; handed = a .handed; pc = λ e. a .pc }
 
-  same-settled : (own : ℕ) (v v′ : Verdict) (value : ℕ) (f f′ : Step) → v ≡ v′ → (Allowed v → Same f f′) → Same (settled h own v value f) (settled h′ own v′ value f′)
+  same-settled : (own : ℕ) (v v′ : Verdict) (word : ℕ) (f f′ : Step) → v ≡ v′ → (Allowed v → Same f f′) → Same (settled h own v word f) (settled h′ own v′ word f′)
   unfolding settled
-  same-settled own v v′ value f f′ e d = rw (← e, a .left .passing, a .right .passing) (go (not (eqb own 0)) (v .gives2) refl (v .gives22) refl)
+  same-settled own v v′ word f f′ e d = rw (← e, a .left .passing, a .right .passing) (go (not (eqb own 0)) (v .gives2) refl (v .gives22) refl)
     where
       go : (b₁ b₂ : Bool) → v .gives2 ≡ b₂ → (b₃ : Bool) → v .gives22 ≡ b₃
-          → Same (settledBy (pick b₁ (refuses own) (pick b₂ (raises 2) (pick b₃ (raises 22) Goes))) h value f) (settledBy (pick b₁ (refuses own) (pick b₂ (raises 2) (pick b₃ (raises 22) Goes))) h′ value f′)
+          → Same (settledBy (pick b₁ (refuses own) (pick b₂ (raises 2) (pick b₃ (raises 22) Goes))) h word f) (settledBy (pick b₁ (refuses own) (pick b₂ (raises 2) (pick b₃ (raises 22) Goes))) h′ word f′)
       go true b₂ e₂ b₃ e₃ = as-they-were (Refused own)
-      go false true e₂ b₃ e₃ = same-trapped (plain 2 value)
-      go false false e₂ true e₃ = same-trapped (plain 22 value)
+      go false true e₂ b₃ e₃ = same-trapped (plain 2 word)
+      go false false e₂ true e₃ = same-trapped (plain 22 word)
       go false false e₂ false e₃ = d (record { not2 = e₂; not22 = e₃ })
 
   -- ---- what is done
@@ -327,38 +310,38 @@ module _ (h h′ : Hart) (a : Alike h h′) where
     same : Same (stepOf x) (stepOf x′)
     value : x .value ≡ x′ .value
 
-  same-answer : (own : ℕ) (v v′ : Verdict) (value : ℕ) (f f′ : Step) (old old′ : ℕ) → v ≡ v′ → (Allowed v → Same f f′ × (old ≡ old′))
-      → SameAccess (answer (settled h own v value f) old) (answer (settled h′ own v′ value f′) old′)
-  same-answer own v v′ value f f′ old old′ e d =
-      let s = same-settled own v v′ value f f′ e (λ k. d k .0) in
+  same-answer : (own : ℕ) (v v′ : Verdict) (word : ℕ) (f f′ : Step) (old old′ : ℕ) → v ≡ v′ → (Allowed v → Same f f′ × (old ≡ old′))
+      → SameAccess (answer (settled h own v word f) old) (answer (settled h′ own v′ word f′) old′)
+  same-answer own v v′ word f f′ old old′ e d =
+      let s = same-settled own v v′ word f f′ e (λ k. d k .0) in
       record {
         same = s;
         value =
-            settled-cases (λ (x : Step). valueOf (x .outcome) old ≡ valueOf (x .outcome) old′) h own v value f (λ n z. refl) (λ p cause. refl)
+            settled-cases (λ (x : Step). valueOf (x .outcome) old ≡ valueOf (x .outcome) old′) h own v word f (λ n z. refl) (λ p cause w. refl)
             (λ p o x y. ap (valueOf (f .outcome)) (d (record { not2 = x; not22 = y }) .1)) ∙ ap (λ (o : Outcome). valueOf o old′) (s .outcome);
       }
 
-  same-row : (own place : ℕ) (form : Form) (w : ℕ) (b : Bool) → place < count
-      → SameAccess (accessRow h own place (rowOf (at place)) form w b) (accessRow h′ own place (rowOf (at place)) form w b)
+  same-row : (own place : ℕ) (form : Form) (w : ℕ) (b : Bool) (word : ℕ) → place < count
+      → SameAccess (accessRow h own place (rowOf (at place)) form w b word) (accessRow h′ own place (rowOf (at place)) form w b word)
   unfolding accessRow
-  same-row own place form w b l =
+  same-row own place form w b word l =
       let to = reaches h place in
       let t : reaches h place ≡ reaches h′ place = rw (a .left .v, a .right .v) in
-      same-answer own (verdict (context h) (rowOf (at place)) b) (verdict (context h′) (rowOf (at place)) b) no-value _ _ _ _
+      same-answer own (verdict (context h) (rowOf (at place)) b) (verdict (context h′) (rowOf (at place)) b) word _ _ _ _
       (rw (a .left .v, a .right .v, a .privilege, a .controls .vtvm))
       (λ k.
       let g = reads to (reached-guest h place b (a .left .passing) (a .left .v) l k) in
       rw (← t, ← g .sees) (same-written to (combined form (seen h to) w) b (reaches-home place (eqb (h .v) 1)) g, refl))
 
-  same-found : (number own : ℕ) (found : Found) (form : Form) (w : ℕ) (b : Bool) → firstAt table number 0 ≡ found → SameAccess (accessFound found h own form w b) (accessFound found h′ own form w b)
-  same-found number own Nothing form w b e = same-answer own (gives true false) (gives true false) no-value (done h) (done h′) 0 0 refl (λ k. clash (sym (k .not2)))
-  same-found number own (At place row) form w b e =
+  same-found : (number own : ℕ) (found : Found) (form : Form) (w : ℕ) (b : Bool) (word : ℕ) → firstAt table number 0 ≡ found → SameAccess (accessFound found h own form w b word) (accessFound found h′ own form w b word)
+  same-found number own Nothing form w b word e = same-answer own (gives true false) (gives true false) word (done h) (done h′) 0 0 refl (λ k. clash (sym (k .not2)))
+  same-found number own (At place row) form w b word e =
       let l = lookup-found number place row e in
-      subst (λ (r : Row). SameAccess (accessRow h own place r form w b) (accessRow h′ own place r form w b)) (sym (l .row)) (same-row own place form w b (l .below))
+      subst (λ (r : Row). SameAccess (accessRow h own place r form w b word) (accessRow h′ own place r form w b word)) (sym (l .row)) (same-row own place form w b word (l .below))
 
-  same-access : (form : Form) (number w : ℕ) (b : Bool) → SameAccess (access h form number w b) (access h′ form number w b)
+  same-access : (form : Form) (number w : ℕ) (b : Bool) (word : ℕ) → SameAccess (access h form number w b word) (access h′ form number w b word)
   unfolding access
-  same-access form number w b = same-found number _ (firstAt table number 0) form w b refl
+  same-access form number w b word = same-found number _ (firstAt table number 0) form w b word refl
 
   -- ---- the interrupt that is due
 
@@ -398,8 +381,8 @@ module _ (h h′ : Hart) (a : Alike h h′) where
   -- ---- every event
 
   -- an access answers the same value
-  pub guest-reads : (form : Form) (number w : ℕ) (b : Bool) → access h form number w b .value ≡ access h′ form number w b .value
-  guest-reads form number w b = same-access form number w b .value
+  pub guest-reads : (form : Form) (number w : ℕ) (b : Bool) (word : ℕ) → access h form number w b word .value ≡ access h′ form number w b word .value
+  guest-reads form number w b word = same-access form number w b word .value
 
   -- every event comes to the same for the guest; when a host's interrupt comes is the host's
   pub guest-learns-nothing : (e : Event) → (e ≡ events.interrupt → Undisturbed h × Undisturbed h′) → Same (run e h) (run e h′)
@@ -413,17 +396,17 @@ module _ (h h′ : Hart) (a : Alike h h′) where
   guest-learns-nothing events.ebreak u =
       let i : breakpoint (h .v) (h .pc) ≡ breakpoint (h′ .v) (h′ .pc) = rw (a .left .v, a .right .v, a .pc) in
       rw (← i) (same-settled _ _ _ _ _ _ refl (λ k. same-trapped _))
-  guest-learns-nothing events.mret u =
+  guest-learns-nothing (events.executes events.mret word) u =
       same-settled _ _ _ _ _ _ (rw (a .left .v, a .right .v)) (λ k. clash (sym (rw (a .left .v) at (k .not2))))
-  guest-learns-nothing events.sret u = same-settled _ _ _ _ _ _ (rw (a .left .v, a .right .v, a .privilege, a .controls .vtsr)) (λ k. same-returned)
-  guest-learns-nothing events.wfi u = same-settled _ _ _ _ _ _ (rw (a .left .v, a .right .v, a .privilege, a .controls .tw, a .controls .vtw)) (λ k. same-moved)
-  guest-learns-nothing events.sfence-vma u = same-settled _ _ _ _ _ _ (rw (a .left .v, a .right .v, a .privilege, a .controls .vtvm)) (λ k. same-moved)
-  guest-learns-nothing events.hfence-vvma u = same-settled _ _ _ _ _ _ (rw (a .left .v, a .right .v)) (λ k. same-moved)
-  guest-learns-nothing events.hfence-gvma u = same-settled _ _ _ _ _ _ (rw (a .left .v, a .right .v)) (λ k. same-moved)
+  guest-learns-nothing (events.executes events.sret word) u = same-settled _ _ _ _ _ _ (rw (a .left .v, a .right .v, a .privilege, a .controls .vtsr)) (λ k. same-returned)
+  guest-learns-nothing (events.executes events.wfi word) u = same-settled _ _ _ _ _ _ (rw (a .left .v, a .right .v, a .privilege, a .controls .tw, a .controls .vtw)) (λ k. same-moved)
+  guest-learns-nothing (events.executes events.sfence-vma word) u = same-settled _ _ _ _ _ _ (rw (a .left .v, a .right .v, a .privilege, a .controls .vtvm)) (λ k. same-moved)
+  guest-learns-nothing (events.executes events.hfence-vvma word) u = same-settled _ _ _ _ _ _ (rw (a .left .v, a .right .v)) (λ k. same-moved)
+  guest-learns-nothing (events.executes events.hfence-gvma word) u = same-settled _ _ _ _ _ _ (rw (a .left .v, a .right .v)) (λ k. same-moved)
   guest-learns-nothing events.interrupt u =
       let q = u refl in
       rw (← same-chosen (q .0) (q .1)) (same-settled _ _ _ _ _ _ refl (λ k. same-taking (chosen (context h) (lines h))))
-  guest-learns-nothing (events.access form number w b) u = same-access form number w b .same
+  guest-learns-nothing (events.executes (events.access form number w b) word) u = same-access form number w b word .same
 
   -- ---- translation
 

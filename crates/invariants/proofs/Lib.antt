@@ -10,3 +10,4 @@ pub mod Guest
 pub mod Learns
 pub mod Known
 pub mod Worked
+pub mod Word

@@ -1,4 +1,4 @@
--- Worked cases of interrupts (2026-01), as one computed table. Assumes nothing.
+-- Worked cases of interrupts (2026-01) and of the instruction word (2026-02), as one computed table. Assumes nothing.
 use mathlib.Core.Path.{_≡_, refl}
 use mathlib.Core.Bool.{true}
 use mathlib.Core.List.{List, [], _∷_}
@@ -8,7 +8,7 @@ use Rattle.bits.specs.Field.{top, get, put}
 use Rattle.bits.specs.Assign.{_after_, _:=_}
 use Rattle.bits.specs.Every.{every}
 use Rattle.registers.specs.Fields.{SIE, MIE, GVA}
-use Rattle.registers.specs.Places.{scause, vsstatus, vstvec, vsepc, vscause, mstatus, mideleg, mie, mtvec, mepc, mcause, mtval, mip, mtinst, mtval2, hideleg}
+use Rattle.registers.specs.Places.{scause, stval, vsstatus, vstvec, vsepc, vscause, vstval, mstatus, medeleg, mideleg, mie, mtvec, mepc, mcause, mtval, mip, mtinst, mtval2, hedeleg, hideleg}
 use Rattle.registers.specs.Rules.{legal, stored}
 use Rattle.registers.specs.File.{Write, _↢_, _with_, registersPass}
 use Rattle.table.specs.Table.{firstAt}
@@ -20,9 +20,11 @@ use Rattle.hart.specs.Hart.{reg, reset, passes}
 use Rattle.hart.specs.Deliver.{deliveredM, deliveredHS, deliveredVS, delivered}
 use Rattle.hart.specs.Event.{settled}
 use Rattle.hart.specs.Trap.{ecall}
+use Rattle.hart.specs.Return.{mret}
+use Rattle.hart.specs.Wait.{wfi}
 use Rattle.hart.specs.Interrupt.{interrupt}
 use Rattle.hart.specs.Access.{written, accessRow, access, read, write}
-use Rattle.invariants.proofs.Known.{Replay, _gives_, all-ones}
+use Rattle.invariants.proofs.Known.{Replay, _gives_, any-word, all-ones}
 
 -- a reset hart in a mode, at 1000, with some registers as they come in
 abbrev in-mode : (v privilege : ℕ) → List Write → Hart
@@ -30,10 +32,10 @@ in-mode v p ws = record { v = v; privilege = p; pc = 0x1000; regs = reset v p 0 
 
 -- all ones written to one register and then to another, in M; and what the first holds or the second shows
 abbrev after-writes : (first second : ℕ) → Hart
-after-writes first second = write (write (reset 0 3 0) first top .hart) second top .hart
+after-writes first second = write (write (reset 0 3 0) first top any-word .hart) second top any-word .hart
 
 abbrev shows : (first second : ℕ) → ℕ
-shows first second = read (after-writes first second) second .value
+shows first second = read (after-writes first second) second any-word .value
 
 -- interrupts that are pending and enabled, some of them delegated, with mstatus.MIE and SIE and vsstatus.SIE
 abbrev waiting : (v privilege bits mideleg hideleg mie sie vs : ℕ) → Hart
@@ -44,6 +46,10 @@ waiting v p bits d h m s vs =
 abbrev telltale : Hart
 telltale =
     interrupt (record { v = 0; privilege = 1; pc = 0; regs = waiting 0 1 0x80 0x444 0 0 0 0 .regs with (mtval ↢ 5 ∷ mtval2 ↢ 5 ∷ mtinst ↢ 5 ∷ mstatus ↢ (0xA00000000 after (GVA := 1 ∷ [])) ∷ []) }) .hart
+
+-- WFI in VU: cause 22, not delegated
+abbrev waited : Hart
+waited = wfi (in-mode 1 0 []) 0x10500073 .hart
 
 -- the interrupt that is taken; 0: none; 100 and more: refused
 abbrev taken : Hart → ℕ
@@ -79,8 +85,8 @@ cases =
     reg (after-writes 0x603 0x204) mie gives 0x444 ∷
     reg (after-writes 0x603 0x244) mip gives 0x4 ∷
     -- in VS the numbers of sie and sip reach vsie and vsip
-    read (in-mode 1 1 (mie ↢ 0xEEE ∷ hideleg ↢ 0x440 ∷ [])) 0x104 .value gives 0x220 ∷
-    reg (write (in-mode 1 1 (hideleg ↢ 0x444 ∷ [])) 0x144 top .hart) mip gives 0x4 ∷
+    read (in-mode 1 1 (mie ↢ 0xEEE ∷ hideleg ↢ 0x440 ∷ [])) 0x104 any-word .value gives 0x220 ∷
+    reg (write (in-mode 1 1 (hideleg ↢ 0x444 ∷ [])) 0x144 top any-word .hart) mip gives 0x4 ∷
     -- one of each level: the machine timer's to M from HS, the supervisor's external to HS from U, VS's external to VS from VU as 9
     taken (waiting 0 1 0x80 0x444 0 0 0 0) gives 7 ∷
     interrupt (waiting 0 1 0x80 0x444 0 0 0 0) .hart .privilege gives 3 ∷
@@ -121,8 +127,15 @@ cases =
     ecall (in-mode 0 1 (mtvec ↢ 0x4001 ∷ [])) .hart .pc gives 0x4000 ∷
     -- check 2: mideleg without 2, mie with 12
     taken (waiting 0 1 0x80 0x440 0 0 0 0) gives 102 ∷
-    taken (waiting 0 1 0x1000 0x444 0 0 0 0) gives 102 ∷ []
+    taken (waiting 0 1 0x1000 0x444 0 0 0 0) gives 102 ∷
+    -- the word with 22 in M, all 32 bits of it with 22 in HS, and with 2 in VS; it is the value alone, and an environment call has none
+    reg waited mtval gives 0x10500073 ∷
+    reg waited mtinst gives 0 ∷
+    reg waited mtval2 gives 0 ∷
+    reg (ecall waited .hart) mtval gives 0 ∷
+    reg (read (in-mode 1 1 (medeleg ↢ 0x400000 ∷ [])) 0x600 0xFFFFFFFF .hart) stval gives 0xFFFFFFFF ∷
+    reg (mret (in-mode 1 1 (medeleg ↢ 4 ∷ hedeleg ↢ 4 ∷ [])) 0x30200073 .hart) vstval gives 0x30200073 ∷ []
 
 pub worked : every (λ i (r : Replay). eqb (r .answer) (r .expected)) 0 cases ≡ true
-unfolding every get put legal stored firstAt registersPass passes deliveredM deliveredHS deliveredVS delivered settled chosen interrupt ecall written accessRow access
+unfolding every get put legal stored firstAt registersPass passes deliveredM deliveredHS deliveredVS delivered settled chosen interrupt ecall mret wfi written accessRow access
 worked = refl

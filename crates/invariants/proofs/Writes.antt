@@ -3,12 +3,16 @@ use mathlib.Core.Path.{_≡_, refl, sym, ap, _∙_}
 use mathlib.Core.Bool.{Bool, true, false, _&&_}
 use mathlib.Core.List.{List, [], _∷_}
 use mathlib.Core.Logic.{_≢_}
-use Prim.Native.Nat.{ℕ}
+use Prim.Native.Nat.{ℕ, _<_}
+use lib.Dec.{eqb, ltb}
 use lib.ListN.{getD, set, length, length-set}
-use lib.Seq.{getD-set-other}
+use lib.Seq.{getD-set-same, getD-set-other}
+use borrow.Author.Tests.{eqb-true, eqb-false, ltb-true}
+use Rattle.bits.specs.Field.{pick}
 use Rattle.bits.specs.Every.{every}
 use Rattle.bits.proofs.Bools.{split, clash}
 use Rattle.bits.proofs.Every.{every-set}
+use Rattle.registers.specs.Places.{kept}
 use Rattle.registers.specs.File.{Write, _with_, holds}
 
 -- every write is to a place inside
@@ -25,6 +29,29 @@ outside-kept inside [] rs t p f = refl
 outside-kept inside (w ∷ ws) rs t p f =
     split (inside (w .place)) (allIn inside ws) t
     (λ a b. outside-kept inside ws (set rs (w .place) (w .value)) b p f ∙ getD-set-other rs (w .place) p (w .value) 0 (apart inside p (w .place) f a))
+
+-- what a place holds after writes, if it held x before
+abbrev pub lands : List Write → (place x : ℕ) → ℕ
+lands [] p x = x
+lands (w ∷ ws) p x = lands ws p (pick (eqb p (w .place)) (w .value) x)
+
+set-lands : (rs : List ℕ) (q x p : ℕ) → q < length rs → getD (set rs q x) p 0 ≡ pick (eqb p q) x (getD rs p 0)
+set-lands rs q x p b = go (eqb p q) refl
+  where
+    go : (t : Bool) → eqb p q ≡ t → getD (set rs q x) p 0 ≡ pick t x (getD rs p 0)
+    go true i = rw (eqb-true p q i) (getD-set-same rs q x 0 b)
+    go false i = getD-set-other rs q p x 0 (eqb-false p q i)
+
+pub with-lands : (ws : List Write) (rs : List ℕ) (p : ℕ) → length rs ≡ kept → allIn (λ q. ltb q kept) ws ≡ true → getD (rs with ws) p 0 ≡ lands ws p (getD rs p 0)
+with-lands [] rs p l t = refl
+with-lands (w ∷ ws) rs p l t =
+    split (ltb (w .place) kept) (allIn (λ q. ltb q kept) ws) t (λ b more.
+    with-lands ws (set rs (w .place) (w .value)) p (length-set rs _ _ ∙ l) more ∙ ap (lands ws p) (set-lands rs (w .place) (w .value) p (rw l (ltb-true _ _ b))))
+
+-- two lists of writes leave the same at a place
+pub with-alike : (ws ws′ : List Write) (rs rs′ : List ℕ) (p : ℕ) → length rs ≡ kept → length rs′ ≡ kept → allIn (λ q. ltb q kept) ws ≡ true → allIn (λ q. ltb q kept) ws′ ≡ true
+    → lands ws p (getD rs p 0) ≡ lands ws′ p (getD rs′ p 0) → getD (rs with ws) p 0 ≡ getD (rs′ with ws′) p 0
+with-alike ws ws′ rs rs′ p l l′ t t′ e = with-lands ws rs p l t ∙ e ∙ sym (with-lands ws′ rs′ p l′ t′)
 
 pub length-with : (ws : List Write) (rs : List ℕ) → length (rs with ws) ≡ length rs
 length-with [] rs = refl

@@ -1,6 +1,9 @@
 -- Every event of the hart but translation, so that a theorem can speak of any of them.
 use mathlib.Core.Bool.{Bool}
 use Prim.Native.Nat.{ℕ}
+use lib.Dec.{eqb}
+use Rattle.bits.specs.Field.{pick}
+use Rattle.registers.specs.Places.{scause, stval, vscause, vstval, mcause, mtval}
 use Rattle.exceptions.specs.declared.Exception.{Exception}
 use Rattle.hart.specs.declared.state.Hart.{Hart}
 use Rattle.hart.specs.declared.event.Step.{Step}
@@ -13,25 +16,41 @@ use Rattle.hart.specs.Return as returns
 use Rattle.hart.specs.Wait as waits
 use Rattle.hart.specs.Access as accesses
 
+-- "a register access, return, WFI or fence" (2026-02)
+pub data Instruction : Type 0 where
+  mret sret wfi sfence-vma hfence-vvma hfence-gvma : Instruction
+  access : Form → (number value : ℕ) → (writes : Bool) → Instruction
+
+-- "Each such event gains the word"
 pub data Event : Type 0 where
+  executes : Instruction → (word : ℕ) → Event
   trap : Exception → Event
-  ecall ebreak mret sret wfi sfence-vma hfence-vvma hfence-gvma interrupt : Event
-  access : Form → (number value : ℕ) → (writes : Bool) → Event
+  ecall ebreak interrupt : Event
 
 -- an access, but for the value answered
 abbrev pub stepOf : Accessed → Step
 stepOf a = step (a .hart) (a .outcome)
 
+abbrev pub executed : Instruction → Hart → (word : ℕ) → Step
+executed mret h word = returns.mret h word
+executed sret h word = returns.sret h word
+executed wfi h word = waits.wfi h word
+executed sfence-vma h word = waits.sfenceVma h word
+executed hfence-vvma h word = waits.hfenceVvma h word
+executed hfence-gvma h word = waits.hfenceGvma h word
+executed (access form number value writes) h word = stepOf (accesses.access h form number value writes word)
+
 -- what an event comes to
 unfoldable pub run : Event → Hart → Step
+run (executes i word) h = executed i h word
 run (trap t) h = traps.trap h t
 run ecall h = traps.ecall h
 run ebreak h = traps.ebreak h
-run mret h = returns.mret h
-run sret h = returns.sret h
-run wfi h = waits.wfi h
-run sfence-vma h = waits.sfenceVma h
-run hfence-vvma h = waits.hfenceVvma h
-run hfence-gvma h = waits.hfenceGvma h
 run interrupt h = interrupts.interrupt h
-run (access form number value writes) h = stepOf (accesses.access h form number value writes)
+
+-- where the level that a hart is at keeps what it is told of a trap: M in mcause and mtval, HS in scause and stval, VS in vscause and vstval
+abbrev pub causePlace : Hart → ℕ
+causePlace h = pick (eqb (h .v) 1) vscause (pick (eqb (h .privilege) 3) mcause scause)
+
+abbrev pub valuePlace : Hart → ℕ
+valuePlace h = pick (eqb (h .v) 1) vstval (pick (eqb (h .privilege) 3) mtval stval)
