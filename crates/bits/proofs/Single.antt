@@ -9,7 +9,7 @@ use lib.Dec.{eqb, ltb}
 use lib.Pow.{pow-pos}
 use borrow.Author.Tests.{ltb-true, ltb-false}
 use Rattle.bits.specs.declared.Field.{Field}
-use Rattle.bits.specs.Field.{pick, bit, Fits, top, ones, place, get, put, has, copy}
+use Rattle.bits.specs.Field.{pick, bit, Fits, top, ones, get, put, has, copy}
 use Rattle.bits.proofs.Fields.{get-and, get-or, get-lt, get-comp, get-past, ones-bound}
 use Rattle.bits.proofs.Tested.{field-mask}
 

@@ -2,7 +2,7 @@
 use mathlib.Core.Path.{_≡_, refl, sym, ap, subst, _∙_}
 use mathlib.Core.Bool.{Bool, true, false, _&&_, not}
 use mathlib.Core.List.{List, [], _∷_, _++_}
-use mathlib.Core.Logic.{_⊎_, inl, inr, ⊎-elim, _↔_}
+use mathlib.Core.Logic.{inl, inr, ⊎-elim, _↔_}
 use Prim.Native.Nat.{ℕ}
 use lib.Dec.{eqb}
 use borrow.Author.Tests.{eqb-true, eq-eqb, not-true}
@@ -12,7 +12,6 @@ use Rattle.privilege.specs.declared.Context.{Context}
 use Rattle.delivery.specs.declared.Target.{Target}
 use Rattle.delivery.specs.declared.Target.the-variants.{M, HS, VS}
 use Rattle.interrupts.specs.declared.Lines.{Lines}
-use Rattle.interrupts.specs.declared.Due.{Due}
 use Rattle.interrupts.specs.declared.Due.the-variants.{To, Nothing}
 use Rattle.interrupts.specs.Interrupts.{due, levels, order, firstOf, firstLevel, chosen}
 use Rattle.interrupts.specs.First.{In, First}

@@ -12,7 +12,7 @@ use Rattle.bits.specs.Field.{pick, top, has, copy}
 use Rattle.bits.proofs.Bools.{clash}
 use Rattle.bits.proofs.Masks.{and-or, and-assoc}
 use Rattle.bits.proofs.Single.{has-copy, has-back}
-use Rattle.registers.specs.Rules.{free, taken, rule, stored}
+use Rattle.registers.specs.Rules.{free, rule, stored}
 use Rattle.registers.specs.Views.{View, up, shown, storedBy, no-bits}
 use Rattle.registers.specs.Registers.{Register, registers}
 use Rattle.registers.proofs.Legal.{taken-has, restricted-fits}

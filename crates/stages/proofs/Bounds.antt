@@ -1,7 +1,7 @@
 -- How many entries a walk reads: bounds compose. Assumes nothing.
 use mathlib.Core.Path.{_≡_}
 use mathlib.Core.Bool.{Bool, true, false}
-use Prim.Native.Nat.{ℕ, zero, suc, _+_, _-_, _*_, _≤_, zero-le, suc-le-suc}
+use Prim.Native.Nat.{ℕ, zero, suc, _+_, _*_, _≤_, zero-le, suc-le-suc}
 use native.Mathlib.Nat.{add-comm, suc-add, zero-mul, suc-mul, add-zero, mul-one}
 use native.Mathlib.Omega.{arith}
 use lib.ListN.{length}
