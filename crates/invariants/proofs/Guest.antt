@@ -1,13 +1,13 @@
 -- With V=1 an event that is done changes only VS registers, pc and the privilege, and of interrupts what hideleg hands down; V stays 1.
 -- Assumes nothing.
-use mathlib.Core.Path.{_≡_, refl, sym, ap, subst, _∙_}
+use mathlib.Core.Path.{_≡_, refl, sym, ap, _∙_}
 use mathlib.Core.Bool.{Bool, true, false, _&&_, _||_, not}
 use mathlib.Core.Logic.{_⊎_, inl, inr, ⊎-elim}
 use Prim.Native.Nat.{ℕ, _^_, _<_}
 use native.Mathlib.Omega.{arith}
 use lib.Dec.{eqb}
-use lib.ListN.{getD, set, length, replicate, List·getD-eq-default}
-use borrow.Author.Tests.{eqb-true, eqb-false, eq-eqb, not-true}
+use lib.ListN.{getD, set, length, replicate}
+use borrow.Author.Tests.{eqb-true, eqb-false, eq-eqb}
 use lib.Seq.{getD-set-same, getD-set-other}
 use Rattle.bits.specs.Field.{get, has, top}
 use Rattle.bits.specs.Every.{every}

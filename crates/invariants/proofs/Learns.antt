@@ -8,7 +8,7 @@ use Prim.Native.Nat.{ℕ, suc, _-_, _<_}
 use native.Mathlib.Omega.{arith}
 use lib.Bits.{bitAnd}
 use lib.Dec.{eqb, ltb}
-use lib.ListN.{getD, set, length, length-set, List·getD-eq-default}
+use lib.ListN.{getD, set, length, List·getD-eq-default}
 use lib.Seq.{getD-set-same, getD-set-other}
 use borrow.Author.Tests.{eqb-true, eqb-false, ltb-true, not-false}
 use Rattle.bits.specs.Field.{pick, top, get, has}
@@ -19,7 +19,7 @@ use Rattle.bits.proofs.Single.{has-and, has-not, has-zero}
 use Rattle.registers.specs.Fields.{SPP}
 use Rattle.registers.specs.Places.{kept, vsstatus, vstvec, vsepc, vsatp, medeleg, mideleg, mie, mip, hedeleg, hideleg}
 use Rattle.registers.specs.Rules.{free, legal, rule}
-use Rattle.registers.specs.Views.{View, lets, shown, storedBy}
+use Rattle.registers.specs.Views.{View, lets, storedBy}
 use Rattle.registers.specs.Registers.{count, at}
 use Rattle.registers.specs.File.{Write, _with_, holds}
 use Rattle.registers.proofs.Rows.{reaches-home}
@@ -69,7 +69,7 @@ use Rattle.invariants.proofs.Mode.{passing}
 use Rattle.invariants.proofs.Writes.{allIn, outside-kept, lands, with-alike}
 use Rattle.invariants.proofs.Settled.{settled-cases}
 use Rattle.invariants.proofs.Comes.{Allowed, reaches}
-use Rattle.invariants.proofs.Guest.{Own, Lent, reached-guest, shared-kept, lent-gate}
+use Rattle.invariants.proofs.Guest.{Own, Lent, reached-guest, lent-gate}
 use Rattle.invariants.proofs.Sides.{host}
 
 -- ---- the registers of interrupts

@@ -1,6 +1,6 @@
 -- An interrupt that is taken: exactly which, and never to a less privileged level. Assumes nothing.
 use mathlib.Core.Path.{_≡_, refl, sym, ap, _∙_}
-use mathlib.Core.Bool.{Bool, true, false, _&&_}
+use mathlib.Core.Bool.{true, false, _&&_}
 use mathlib.Core.Logic.{_↔_}
 use Prim.Native.Nat.{ℕ, _≤_}
 use native.Mathlib.Omega.{arith}
@@ -15,7 +15,6 @@ use Rattle.interrupts.specs.Interrupts.{admits, due, order, chosen, interruptio
 use Rattle.interrupts.specs.First.{In, First}
 use Rattle.interrupts.proofs.Chosen.{rests-exactly, takes-exactly}
 use Rattle.hart.specs.declared.state.Hart.{Hart}
-use Rattle.hart.specs.declared.event.Outcome.{Outcome}
 use Rattle.hart.specs.declared.event.Outcome.the-variants.{Done, Interrupted}
 use Rattle.hart.specs.declared.event.Step.{Step}
 use Rattle.hart.specs.Hart.{reg, context, lines, passes}

@@ -48,7 +48,7 @@ const NUMBER: u64 = 4;
 
 const VALUE: u64 = 20;
 
-const TOUR: [u64; 42] = [
+const TOUR: [u64; 44] = [
     // Register 1000 gives refusal 5.
     READ | 0x1000 << NUMBER,
     // M hands all that it can to HS and VS, but for the environment call from HS.
@@ -62,6 +62,8 @@ const TOUR: [u64; 42] = [
     SET | 0x300 << NUMBER | 0x800 << VALUE,
     MRET,
     READ | 0x341 << NUMBER,
+    // The trap's value is the instruction's word.
+    READ | 0x143 << NUMBER,
     // HS to U by SRET, and back by a call.
     CLEAR | 0x100 << NUMBER | 0x100 << VALUE,
     WRITE | 0x141 << NUMBER | 0x5000 << VALUE,
@@ -81,6 +83,7 @@ const TOUR: [u64; 42] = [
     READ | 0x143 << NUMBER,
     // VS's own numbers are out of reach in VS: into HS, where they are not.
     READ | 0x241 << NUMBER,
+    READ | 0x143 << NUMBER,
     READ | 0x241 << NUMBER,
     READ | 0x600 << NUMBER,
     WFI,
@@ -166,17 +169,35 @@ fn request(cause: u64, value: u64) -> Exception {
     plain(cause, 0)
 }
 
+// The instruction's word: CSRRS from x0, CSRRW, CSRRS and CSRRC from x11, all to x10; fences of all addresses.
+fn word(event: u64, n: u64) -> u32 {
+    let register = ((n % 0x1000) as u32) << 20;
+    match event {
+        READ => register | 0x2573,
+        WRITE => register | 0x5_9573,
+        SET => register | 0x5_A573,
+        CLEAR => register | 0x5_B573,
+        MRET => 0x3020_0073,
+        SRET => 0x1020_0073,
+        WFI => 0x1050_0073,
+        SFENCE_VMA => 0x1200_0073,
+        HFENCE_VVMA => 0x2200_0073,
+        _ => 0x6200_0073,
+    }
+}
+
 fn instruction(h: Hart, event: u64, n: u64, x: u64) -> Step {
+    let w = word(event, n);
     match event {
         TRAP => h.trap(request(n, x)),
         ECALL => h.ecall(),
         EBREAK => h.ebreak(),
-        MRET => h.mret(),
-        SRET => h.sret(),
-        WFI => h.wfi(),
-        SFENCE_VMA => h.sfence_vma(),
-        HFENCE_VVMA => h.hfence_vvma(),
-        HFENCE_GVMA => h.hfence_gvma(),
+        MRET => h.mret(w),
+        SRET => h.sret(w),
+        WFI => h.wfi(w),
+        SFENCE_VMA => h.sfence_vma(w),
+        HFENCE_VVMA => h.hfence_vvma(w),
+        HFENCE_GVMA => h.hfence_gvma(w),
         _ => h.interrupt(),
     }
 }
@@ -193,11 +214,12 @@ fn answered(s: Step) -> Accessed {
 }
 
 fn act(h: Hart, event: u64, n: u64, x: u64) -> Accessed {
+    let w = word(event, n);
     match event {
-        READ => h.read(n),
-        WRITE => h.write(n, x),
-        SET => h.set(n, x, true),
-        CLEAR => h.clear(n, x, true),
+        READ => h.read(n, w),
+        WRITE => h.write(n, x, w),
+        SET => h.set(n, x, true, w),
+        CLEAR => h.clear(n, x, true, w),
         _ => answered(instruction(h, event, n, x)),
     }
 }
@@ -225,7 +247,7 @@ fn main() {
     let tour = TOUR;
     let mut h = start;
     let mut i: usize = 0;
-    while i < 42 {
+    while i < 44 {
         h = step(h, tour[i]);
         i = i + 1;
     }
