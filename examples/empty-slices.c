@@ -19,12 +19,12 @@ static uint64_t out[BALCUMENTRI_TRANSLATION_WORDS];
            balcumentri_##name(hart, BALCUMENTRI_HART_WORDS, __VA_ARGS__ NULL, 0),                                   \
            balcumentri_##name(NULL, 0, __VA_ARGS__ NULL, 0))
 
-/* The hart after a write to a register. */
+/* The hart after a write to a register. In M it is done: its instruction's word, here 0, is not looked at. */
 static void write_register(uint64_t number, uint64_t value)
 {
     uint64_t next[BALCUMENTRI_ACCESS_WORDS];
 
-    balcumentri_write(hart, BALCUMENTRI_HART_WORDS, number, value, next, BALCUMENTRI_ACCESS_WORDS);
+    balcumentri_write(hart, BALCUMENTRI_HART_WORDS, number, value, 0, next, BALCUMENTRI_ACCESS_WORDS);
     memcpy(hart, next, sizeof hart);
 }
 
@@ -52,19 +52,19 @@ int main(void)
 
     TRY(passes, 1, );
     TRY(translate, BALCUMENTRI_TRANSLATION_WORDS, 0x1000, NULL, 0, BALCUMENTRI_LOAD, 0x1000, 4, );
-    TRY(read, BALCUMENTRI_ACCESS_WORDS, 0x300, );
-    TRY(write, BALCUMENTRI_ACCESS_WORDS, 0x300, 0, );
-    TRY(set, BALCUMENTRI_ACCESS_WORDS, 0x300, 0, true, );
-    TRY(clear, BALCUMENTRI_ACCESS_WORDS, 0x300, 0, true, );
+    TRY(read, BALCUMENTRI_ACCESS_WORDS, 0x300, 0, );
+    TRY(write, BALCUMENTRI_ACCESS_WORDS, 0x300, 0, 0, );
+    TRY(set, BALCUMENTRI_ACCESS_WORDS, 0x300, 0, true, 0, );
+    TRY(clear, BALCUMENTRI_ACCESS_WORDS, 0x300, 0, true, 0, );
     TRY(trap, BALCUMENTRI_STEP_WORDS, 3, 0, 0, 0, false, );
     TRY(ecall, BALCUMENTRI_STEP_WORDS, );
     TRY(ebreak, BALCUMENTRI_STEP_WORDS, );
-    TRY(mret, BALCUMENTRI_STEP_WORDS, );
-    TRY(sret, BALCUMENTRI_STEP_WORDS, );
-    TRY(wfi, BALCUMENTRI_STEP_WORDS, );
-    TRY(sfence_vma, BALCUMENTRI_STEP_WORDS, );
-    TRY(hfence_vvma, BALCUMENTRI_STEP_WORDS, );
-    TRY(hfence_gvma, BALCUMENTRI_STEP_WORDS, );
+    TRY(mret, BALCUMENTRI_STEP_WORDS, 0, );
+    TRY(sret, BALCUMENTRI_STEP_WORDS, 0, );
+    TRY(wfi, BALCUMENTRI_STEP_WORDS, 0, );
+    TRY(sfence_vma, BALCUMENTRI_STEP_WORDS, 0, );
+    TRY(hfence_vvma, BALCUMENTRI_STEP_WORDS, 0, );
+    TRY(hfence_gvma, BALCUMENTRI_STEP_WORDS, 0, );
     TRY(interrupt, BALCUMENTRI_STEP_WORDS, );
 
     uint64_t written = 0;

@@ -32,6 +32,10 @@
  *   6         how many entries were read
  *   7 to 66   fifteen places of four words, in the order of the reads: stage (1 first, 2 second), level, machine address, value;
  *             unused places are 0
+ *
+ * A register access, a return, WFI and a fence take the word of their instruction: its 32 bits, as they were recorded. Where the
+ * event traps with cause 2 or 22 the trap's value is the word, zero-extended: mtval, stval or vstval holds it then. Else the word
+ * is not looked at. It need not fit the event, since nothing decodes it. (A trap request's word is what mtinst or htinst takes.)
  */
 #ifndef BALCUMENTRI_H
 #define BALCUMENTRI_H
@@ -80,13 +84,14 @@ uint64_t balcumentri_translate(const uint64_t *hart, size_t hart_words, uint64_t
                                uint64_t kind, uint64_t address, uint64_t width, uint64_t *out, size_t out_words);
 
 /* Register access by number. A set or a clear writes where its flag says so. out: 37 words. */
-uint64_t balcumentri_read(const uint64_t *hart, size_t hart_words, uint64_t number, uint64_t *out, size_t out_words);
-uint64_t balcumentri_write(const uint64_t *hart, size_t hart_words, uint64_t number, uint64_t value, uint64_t *out,
-                           size_t out_words);
-uint64_t balcumentri_set(const uint64_t *hart, size_t hart_words, uint64_t number, uint64_t value, bool writes, uint64_t *out,
-                         size_t out_words);
-uint64_t balcumentri_clear(const uint64_t *hart, size_t hart_words, uint64_t number, uint64_t value, bool writes,
+uint64_t balcumentri_read(const uint64_t *hart, size_t hart_words, uint64_t number, uint32_t word, uint64_t *out,
+                          size_t out_words);
+uint64_t balcumentri_write(const uint64_t *hart, size_t hart_words, uint64_t number, uint64_t value, uint32_t word,
                            uint64_t *out, size_t out_words);
+uint64_t balcumentri_set(const uint64_t *hart, size_t hart_words, uint64_t number, uint64_t value, bool writes, uint32_t word,
+                         uint64_t *out, size_t out_words);
+uint64_t balcumentri_clear(const uint64_t *hart, size_t hart_words, uint64_t number, uint64_t value, bool writes,
+                           uint32_t word, uint64_t *out, size_t out_words);
 
 /* A trap request: a fault that a translation answered, or another cause. out: 36 words. */
 uint64_t balcumentri_trap(const uint64_t *hart, size_t hart_words, uint64_t cause, uint64_t value, uint64_t second,
@@ -95,12 +100,12 @@ uint64_t balcumentri_trap(const uint64_t *hart, size_t hart_words, uint64_t caus
 /* The instructions ECALL, EBREAK, MRET, SRET, WFI, SFENCE.VMA, HFENCE.VVMA and HFENCE.GVMA. out: 36 words. */
 uint64_t balcumentri_ecall(const uint64_t *hart, size_t hart_words, uint64_t *out, size_t out_words);
 uint64_t balcumentri_ebreak(const uint64_t *hart, size_t hart_words, uint64_t *out, size_t out_words);
-uint64_t balcumentri_mret(const uint64_t *hart, size_t hart_words, uint64_t *out, size_t out_words);
-uint64_t balcumentri_sret(const uint64_t *hart, size_t hart_words, uint64_t *out, size_t out_words);
-uint64_t balcumentri_wfi(const uint64_t *hart, size_t hart_words, uint64_t *out, size_t out_words);
-uint64_t balcumentri_sfence_vma(const uint64_t *hart, size_t hart_words, uint64_t *out, size_t out_words);
-uint64_t balcumentri_hfence_vvma(const uint64_t *hart, size_t hart_words, uint64_t *out, size_t out_words);
-uint64_t balcumentri_hfence_gvma(const uint64_t *hart, size_t hart_words, uint64_t *out, size_t out_words);
+uint64_t balcumentri_mret(const uint64_t *hart, size_t hart_words, uint32_t word, uint64_t *out, size_t out_words);
+uint64_t balcumentri_sret(const uint64_t *hart, size_t hart_words, uint32_t word, uint64_t *out, size_t out_words);
+uint64_t balcumentri_wfi(const uint64_t *hart, size_t hart_words, uint32_t word, uint64_t *out, size_t out_words);
+uint64_t balcumentri_sfence_vma(const uint64_t *hart, size_t hart_words, uint32_t word, uint64_t *out, size_t out_words);
+uint64_t balcumentri_hfence_vvma(const uint64_t *hart, size_t hart_words, uint32_t word, uint64_t *out, size_t out_words);
+uint64_t balcumentri_hfence_gvma(const uint64_t *hart, size_t hart_words, uint32_t word, uint64_t *out, size_t out_words);
 
 /* Takes the interrupt that is due: interrupted; where none is, done, and the hart is as it was. out: 36 words. */
 uint64_t balcumentri_interrupt(const uint64_t *hart, size_t hart_words, uint64_t *out, size_t out_words);

@@ -43,6 +43,8 @@ const _: () = assert!(size_of::<TranslationWords>() == 8 * TRANSLATION_WORDS);
 
 /// A call of the face that takes a hart alone.
 type Plain = unsafe extern "C" fn(*const u64, usize, *mut u64, usize) -> u64;
+/// A call of the face that takes a hart and the word of an instruction.
+type Worded = unsafe extern "C" fn(*const u64, usize, u32, *mut u64, usize) -> u64;
 
 /// What a call returns that has written its result.
 const WRITTEN: u64 = 0;
@@ -66,6 +68,7 @@ extern "C" {
         hart: *const u64,
         words: usize,
         number: u64,
+        word: u32,
         out: *mut u64,
         size: usize,
     ) -> u64;
@@ -74,6 +77,7 @@ extern "C" {
         words: usize,
         number: u64,
         value: u64,
+        word: u32,
         out: *mut u64,
         size: usize,
     ) -> u64;
@@ -83,6 +87,7 @@ extern "C" {
         number: u64,
         value: u64,
         writes: bool,
+        word: u32,
         out: *mut u64,
         size: usize,
     ) -> u64;
@@ -92,6 +97,7 @@ extern "C" {
         number: u64,
         value: u64,
         writes: bool,
+        word: u32,
         out: *mut u64,
         size: usize,
     ) -> u64;
@@ -108,12 +114,48 @@ extern "C" {
     ) -> u64;
     fn balcumentri_ecall(hart: *const u64, words: usize, out: *mut u64, size: usize) -> u64;
     fn balcumentri_ebreak(hart: *const u64, words: usize, out: *mut u64, size: usize) -> u64;
-    fn balcumentri_mret(hart: *const u64, words: usize, out: *mut u64, size: usize) -> u64;
-    fn balcumentri_sret(hart: *const u64, words: usize, out: *mut u64, size: usize) -> u64;
-    fn balcumentri_wfi(hart: *const u64, words: usize, out: *mut u64, size: usize) -> u64;
-    fn balcumentri_sfence_vma(hart: *const u64, words: usize, out: *mut u64, size: usize) -> u64;
-    fn balcumentri_hfence_vvma(hart: *const u64, words: usize, out: *mut u64, size: usize) -> u64;
-    fn balcumentri_hfence_gvma(hart: *const u64, words: usize, out: *mut u64, size: usize) -> u64;
+    fn balcumentri_mret(
+        hart: *const u64,
+        words: usize,
+        word: u32,
+        out: *mut u64,
+        size: usize,
+    ) -> u64;
+    fn balcumentri_sret(
+        hart: *const u64,
+        words: usize,
+        word: u32,
+        out: *mut u64,
+        size: usize,
+    ) -> u64;
+    fn balcumentri_wfi(
+        hart: *const u64,
+        words: usize,
+        word: u32,
+        out: *mut u64,
+        size: usize,
+    ) -> u64;
+    fn balcumentri_sfence_vma(
+        hart: *const u64,
+        words: usize,
+        word: u32,
+        out: *mut u64,
+        size: usize,
+    ) -> u64;
+    fn balcumentri_hfence_vvma(
+        hart: *const u64,
+        words: usize,
+        word: u32,
+        out: *mut u64,
+        size: usize,
+    ) -> u64;
+    fn balcumentri_hfence_gvma(
+        hart: *const u64,
+        words: usize,
+        word: u32,
+        out: *mut u64,
+        size: usize,
+    ) -> u64;
     fn balcumentri_interrupt(hart: *const u64, words: usize, out: *mut u64, size: usize) -> u64;
     fn balcumentri_place(number: u64) -> u64;
     fn balcumentri_number(place: u64) -> u64;
@@ -154,6 +196,14 @@ fn plain<const N: usize>(call: Plain, hart: &HartWords) -> [u64; N] {
     // of the functions declared above, all with these four parameters.
     of_hart(hart, |h, words, out, size| unsafe {
         call(h, words, out, size)
+    })
+}
+
+/// The result of a call that takes a hart and an instruction's word.
+fn worded<const N: usize>(call: Worded, hart: &HartWords, word: u32) -> [u64; N] {
+    // SAFETY: as in `plain`, with these five parameters.
+    of_hart(hart, |h, words, out, size| unsafe {
+        call(h, words, word, out, size)
     })
 }
 
@@ -200,34 +250,34 @@ pub fn translate_into(
 }
 
 /// Reads a register.
-pub fn read(hart: &HartWords, number: u64) -> AccessWords {
+pub fn read(hart: &HartWords, number: u64, word: u32) -> AccessWords {
     // SAFETY: as in `plain`.
     of_hart(hart, |h, words, out, size| unsafe {
-        balcumentri_read(h, words, number, out, size)
+        balcumentri_read(h, words, number, word, out, size)
     })
 }
 
 /// Writes a register.
-pub fn write(hart: &HartWords, number: u64, value: u64) -> AccessWords {
+pub fn write(hart: &HartWords, number: u64, value: u64, word: u32) -> AccessWords {
     // SAFETY: as in `plain`.
     of_hart(hart, |h, words, out, size| unsafe {
-        balcumentri_write(h, words, number, value, out, size)
+        balcumentri_write(h, words, number, value, word, out, size)
     })
 }
 
 /// Sets bits of a register.
-pub fn set(hart: &HartWords, number: u64, value: u64, writes: bool) -> AccessWords {
+pub fn set(hart: &HartWords, number: u64, value: u64, writes: bool, word: u32) -> AccessWords {
     // SAFETY: as in `plain`.
     of_hart(hart, |h, words, out, size| unsafe {
-        balcumentri_set(h, words, number, value, writes, out, size)
+        balcumentri_set(h, words, number, value, writes, word, out, size)
     })
 }
 
 /// Clears bits of a register.
-pub fn clear(hart: &HartWords, number: u64, value: u64, writes: bool) -> AccessWords {
+pub fn clear(hart: &HartWords, number: u64, value: u64, writes: bool, word: u32) -> AccessWords {
     // SAFETY: as in `plain`.
     of_hart(hart, |h, words, out, size| unsafe {
-        balcumentri_clear(h, words, number, value, writes, out, size)
+        balcumentri_clear(h, words, number, value, writes, word, out, size)
     })
 }
 
@@ -257,33 +307,33 @@ pub fn ebreak(hart: &HartWords) -> StepWords {
 }
 
 /// MRET.
-pub fn mret(hart: &HartWords) -> StepWords {
-    plain(balcumentri_mret, hart)
+pub fn mret(hart: &HartWords, word: u32) -> StepWords {
+    worded(balcumentri_mret, hart, word)
 }
 
 /// SRET.
-pub fn sret(hart: &HartWords) -> StepWords {
-    plain(balcumentri_sret, hart)
+pub fn sret(hart: &HartWords, word: u32) -> StepWords {
+    worded(balcumentri_sret, hart, word)
 }
 
 /// WFI.
-pub fn wfi(hart: &HartWords) -> StepWords {
-    plain(balcumentri_wfi, hart)
+pub fn wfi(hart: &HartWords, word: u32) -> StepWords {
+    worded(balcumentri_wfi, hart, word)
 }
 
 /// SFENCE.VMA.
-pub fn sfence_vma(hart: &HartWords) -> StepWords {
-    plain(balcumentri_sfence_vma, hart)
+pub fn sfence_vma(hart: &HartWords, word: u32) -> StepWords {
+    worded(balcumentri_sfence_vma, hart, word)
 }
 
 /// HFENCE.VVMA.
-pub fn hfence_vvma(hart: &HartWords) -> StepWords {
-    plain(balcumentri_hfence_vvma, hart)
+pub fn hfence_vvma(hart: &HartWords, word: u32) -> StepWords {
+    worded(balcumentri_hfence_vvma, hart, word)
 }
 
 /// HFENCE.GVMA.
-pub fn hfence_gvma(hart: &HartWords) -> StepWords {
-    plain(balcumentri_hfence_gvma, hart)
+pub fn hfence_gvma(hart: &HartWords, word: u32) -> StepWords {
+    worded(balcumentri_hfence_gvma, hart, word)
 }
 
 /// Takes the interrupt that is due, if one is.

@@ -33,7 +33,20 @@ pub struct Accessed {
 /// let mut hart = Hart::new(0, 3, 0x1000);
 /// assert_eq!(hart.ecall(), Outcome::Trapped(11));
 /// assert_eq!(hart.register(0x341), Some(0x1000));
-/// assert_eq!(hart.read(0x342).value, 11);
+/// assert_eq!(hart.read(0x342, 0x3420_2573).value, 11);
+/// ```
+///
+/// A register access, a return, WFI and a fence take the word of their instruction: its 32 bits, as they were recorded. Where the
+/// event traps with cause 2 or 22 the word is the trap's value, which mtval, stval or vstval then holds; else it is not looked at.
+/// It need not fit the event, since nothing decodes it.
+///
+/// ```
+/// use balcumentri::{Hart, Outcome};
+///
+/// let mut hart = Hart::new(1, 0, 0x1000); // VU
+/// assert!(hart.put_register(0x302, 1 << 22)); // medeleg: virtual instructions go to HS
+/// assert_eq!(hart.wfi(0x1050_0073), Outcome::Trapped(22));
+/// assert_eq!(hart.read(0x143, 0x1430_2573).value, 0x1050_0073); // stval
 /// ```
 #[derive(Clone, Copy, Debug, PartialEq, Eq)]
 pub struct Hart {
@@ -120,23 +133,23 @@ impl Hart {
     }
 
     /// Reads the register with a number.
-    pub fn read(&mut self, number: u64) -> Accessed {
-        self.accessed(ffi::read(&self.words, number))
+    pub fn read(&mut self, number: u64, word: u32) -> Accessed {
+        self.accessed(ffi::read(&self.words, number, word))
     }
 
     /// Writes it.
-    pub fn write(&mut self, number: u64, value: u64) -> Accessed {
-        self.accessed(ffi::write(&self.words, number, value))
+    pub fn write(&mut self, number: u64, value: u64, word: u32) -> Accessed {
+        self.accessed(ffi::write(&self.words, number, value, word))
     }
 
     /// Sets bits of it, if the access writes.
-    pub fn set(&mut self, number: u64, value: u64, writes: bool) -> Accessed {
-        self.accessed(ffi::set(&self.words, number, value, writes))
+    pub fn set(&mut self, number: u64, value: u64, writes: bool, word: u32) -> Accessed {
+        self.accessed(ffi::set(&self.words, number, value, writes, word))
     }
 
     /// Clears bits of it, if the access writes.
-    pub fn clear(&mut self, number: u64, value: u64, writes: bool) -> Accessed {
-        self.accessed(ffi::clear(&self.words, number, value, writes))
+    pub fn clear(&mut self, number: u64, value: u64, writes: bool, word: u32) -> Accessed {
+        self.accessed(ffi::clear(&self.words, number, value, writes, word))
     }
 
     /// A trap request.
@@ -162,33 +175,33 @@ impl Hart {
     }
 
     /// MRET.
-    pub fn mret(&mut self) -> Outcome {
-        self.stepped(ffi::mret(&self.words))
+    pub fn mret(&mut self, word: u32) -> Outcome {
+        self.stepped(ffi::mret(&self.words, word))
     }
 
     /// SRET.
-    pub fn sret(&mut self) -> Outcome {
-        self.stepped(ffi::sret(&self.words))
+    pub fn sret(&mut self, word: u32) -> Outcome {
+        self.stepped(ffi::sret(&self.words, word))
     }
 
     /// WFI.
-    pub fn wfi(&mut self) -> Outcome {
-        self.stepped(ffi::wfi(&self.words))
+    pub fn wfi(&mut self, word: u32) -> Outcome {
+        self.stepped(ffi::wfi(&self.words, word))
     }
 
     /// SFENCE.VMA.
-    pub fn sfence_vma(&mut self) -> Outcome {
-        self.stepped(ffi::sfence_vma(&self.words))
+    pub fn sfence_vma(&mut self, word: u32) -> Outcome {
+        self.stepped(ffi::sfence_vma(&self.words, word))
     }
 
     /// HFENCE.VVMA.
-    pub fn hfence_vvma(&mut self) -> Outcome {
-        self.stepped(ffi::hfence_vvma(&self.words))
+    pub fn hfence_vvma(&mut self, word: u32) -> Outcome {
+        self.stepped(ffi::hfence_vvma(&self.words, word))
     }
 
     /// HFENCE.GVMA.
-    pub fn hfence_gvma(&mut self) -> Outcome {
-        self.stepped(ffi::hfence_gvma(&self.words))
+    pub fn hfence_gvma(&mut self, word: u32) -> Outcome {
+        self.stepped(ffi::hfence_gvma(&self.words, word))
     }
 
     /// Takes the interrupt that is due. Done: none was, and the hart is as it was.
@@ -201,7 +214,7 @@ impl Hart {
     /// assert_eq!(hart.interrupt(), Outcome::Done);
     /// hart.put_register(0x344, 0x80); // mip: one is pending
     /// assert_eq!(hart.interrupt(), Outcome::Interrupted(7));
-    /// assert_eq!(hart.read(0x342).value, 1 << 63 | 7); // mcause
+    /// assert_eq!(hart.read(0x342, 0x3420_2573).value, 1 << 63 | 7); // mcause
     /// ```
     pub fn interrupt(&mut self) -> Outcome {
         self.stepped(ffi::interrupt(&self.words))
@@ -233,4 +246,44 @@ fn outcome(kind: u64, number: u64) -> Outcome {
 /// Where a stored register stands among a hart's words.
 fn index(number: u64) -> Option<usize> {
     crate::place(number).map(|place| 3 + place)
+}
+
+#[cfg(test)]
+mod tests {
+    use super::*;
+
+    /// Every event that takes a word, on a number that no register has.
+    const WORDED: [fn(&mut Hart, u32) -> Outcome; 10] = [
+        |hart, word| hart.read(0xfff, word).outcome,
+        |hart, word| hart.write(0xfff, 1, word).outcome,
+        |hart, word| hart.set(0xfff, 1, true, word).outcome,
+        |hart, word| hart.clear(0xfff, 1, false, word).outcome,
+        Hart::mret,
+        Hart::sret,
+        Hart::wfi,
+        Hart::sfence_vma,
+        Hart::hfence_vvma,
+        Hart::hfence_gvma,
+    ];
+
+    #[test]
+    fn a_trap_has_the_word_as_its_value() {
+        for (place, event) in WORDED.iter().enumerate() {
+            for word in [0, 0x8000_0001, u32::MAX] {
+                let mut hart = Hart::new(0, 0, 0);
+                assert!(hart.put_register(0x343, 7));
+                assert_eq!(event(&mut hart, word), Outcome::Trapped(2), "{place}");
+                assert_eq!(hart.register(0x343), Some(word.into()), "{place}");
+            }
+        }
+    }
+
+    #[test]
+    fn an_event_that_is_refused_keeps_the_value() {
+        for event in WORDED {
+            let mut hart = Hart::new(0, 0, 2);
+            assert_eq!(event(&mut hart, 7), Outcome::Refused(2));
+            assert_eq!(hart, Hart::new(0, 0, 2));
+        }
+    }
 }

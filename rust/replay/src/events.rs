@@ -93,7 +93,7 @@ pub fn event(happened: &Happened<'_>, what: &str, outcome: Outcome) -> Explanati
         // no event that is explained here takes an interrupt
         Outcome::Done | Outcome::Interrupted(_) => {
             let mut lines = vec![format!("{what} in {from}: done, on in {to}")];
-            if let Event::Perform(instruction) = happened.event {
+            if let Event::Perform(instruction, _) = happened.event {
                 lines.extend(return_origin(*instruction, happened));
                 lines.extend(return_writes(*instruction, happened));
             }

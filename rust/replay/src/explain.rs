@@ -8,6 +8,7 @@ use crate::paint::Paint;
 use crate::script::Event;
 use crate::tree;
 use crate::walk::{self, Part, Stage, View, Walk};
+use crate::word;
 use balcumentri::{Access, Answer, Fault, Kind, Translation};
 use std::io::{self, Write};
 
@@ -30,17 +31,19 @@ pub struct Explainer {
 }
 
 impl Explainer {
-    /// The line, what it came to, and why.
+    /// The line, what it came to, which instruction its word is, and why.
     pub fn explain(&self, out: &mut impl Write, happened: &Happened<'_>) -> io::Result<()> {
         writeln!(out, "# line {}: {}", happened.line, happened.text)?;
         let explanation = match (happened.event, happened.came) {
             (Event::Translate(access), Came::Translated(translation)) => {
                 self.translation(happened, *access, translation)
             }
-            (Event::Register(number, action), Came::Accessed(accessed)) => {
+            (Event::Register(number, action, _), Came::Accessed(accessed)) => {
                 events::access(happened, *number, *action, *accessed)
             }
-            (Event::Perform(instruction), Came::Stepped(outcome)) => {
+            (Event::Ecall, Came::Stepped(outcome)) => events::event(happened, "ECALL", *outcome),
+            (Event::Ebreak, Came::Stepped(outcome)) => events::event(happened, "EBREAK", *outcome),
+            (Event::Perform(instruction, _), Came::Stepped(outcome)) => {
                 events::event(happened, instruction.name(), *outcome)
             }
             (Event::Interrupt, Came::Stepped(outcome)) => interrupts::event(happened, *outcome),
@@ -52,6 +55,9 @@ impl Explainer {
         };
         for line in explanation.lines {
             writeln!(out, "# {line}")?;
+        }
+        if let Some(words) = word::described(happened.event) {
+            writeln!(out, "# word: {words}")?;
         }
         match explanation.why {
             Some(why) if happened.is_well() => writeln!(out, "# why: {why}"),

@@ -14,6 +14,11 @@ impl Form {
         }
         format!("{} takes {}", self.word, self.takes.join(" "))
     }
+
+    /// Whether it takes the word of an instruction, which then comes last.
+    pub fn is_worded(&self) -> bool {
+        self.takes.last() == Some(&"WORD")
+    }
 }
 
 const fn form(word: &'static str, takes: &'static [&'static str]) -> Form {
@@ -32,19 +37,19 @@ pub const FORMS: [Form; 23] = [
     form("fetch", &["ADDRESS", "WIDTH"]),
     form("load", &["ADDRESS", "WIDTH"]),
     form("store", &["ADDRESS", "WIDTH"]),
-    form("read", &["N"]),
-    form("write", &["N", "VALUE"]),
-    form("set", &["N", "VALUE", "WRITES"]),
-    form("clear", &["N", "VALUE", "WRITES"]),
+    form("read", &["N", "WORD"]),
+    form("write", &["N", "VALUE", "WORD"]),
+    form("set", &["N", "VALUE", "WRITES", "WORD"]),
+    form("clear", &["N", "VALUE", "WRITES", "WORD"]),
     form("trap", &["CAUSE", "VALUE", "SECOND", "WORD", "FLAG"]),
     form("ecall", &[]),
     form("ebreak", &[]),
-    form("mret", &[]),
-    form("sret", &[]),
-    form("wfi", &[]),
-    form("sfence.vma", &[]),
-    form("hfence.vvma", &[]),
-    form("hfence.gvma", &[]),
+    form("mret", &["WORD"]),
+    form("sret", &["WORD"]),
+    form("wfi", &["WORD"]),
+    form("sfence.vma", &["WORD"]),
+    form("hfence.vvma", &["WORD"]),
+    form("hfence.gvma", &["WORD"]),
     form("interrupt", &[]),
     form("show", &[]),
 ];

@@ -20,6 +20,7 @@ mod suggest;
 mod tree;
 mod views;
 mod walk;
+mod word;
 mod writes;
 
 use descriptor::Descriptor;
@@ -46,11 +47,12 @@ Setting the scene (numbers are hexadecimal; `#` starts a comment):
     hart V P PC                     a new hart
     reg NUMBER VALUE                a stored register holds a value
 
-Events, each answered on standard output:
+Events, each answered on standard output (WORD: the instruction's 32 bits; of a trap what mtinst or htinst takes):
     fetch, load, store ADDRESS WIDTH
-    read N      write N VALUE      set N VALUE WRITES      clear N VALUE WRITES
+    read N WORD      write N VALUE WORD      set N VALUE WRITES WORD      clear N VALUE WRITES WORD
+    mret, sret, wfi, sfence.vma, hfence.vvma, hfence.gvma WORD
+    ecall  ebreak
     trap CAUSE VALUE SECOND WORD FLAG
-    ecall  ebreak  mret  sret  wfi  sfence.vma  hfence.vvma  hfence.gvma
     interrupt                       takes the interrupt that is due, if one is
     show                            the hart, as a script
 

@@ -14,7 +14,7 @@ pub fn refused(number: u64, hart: &Hart, image: Image<'_>, event: &Event) -> Opt
         (1, _) => image_refused(image),
         (3, Event::Translate(access)) => access_refused(access),
         (4, Event::Trap(trap)) => trap_refused(hart, trap),
-        (5, Event::Register(number, _)) => Some(format!("register number {number:x} is over fff")),
+        (5, Event::Register(number, ..)) => Some(format!("register number {number:x} is over fff")),
         _ => None,
     }
 }
@@ -134,8 +134,8 @@ fn trap_refused(hart: &Hart, trap: &Fault) -> Option<String> {
 /// Why an instruction trapped with cause 2 or 22.
 pub fn trapped(hart: &Hart, event: &Event) -> Option<String> {
     match *event {
-        Event::Register(number, action) => register_trapped(hart, number, action.writes()),
-        Event::Perform(instruction) => instruction_trapped(hart, instruction),
+        Event::Register(number, action, _) => register_trapped(hart, number, action.writes()),
+        Event::Perform(instruction, _) => instruction_trapped(hart, instruction),
         _ => None,
     }
 }

@@ -77,22 +77,22 @@ fn perform(event: &Event, scene: &mut Scene) -> Came {
         Event::Translate(access) => {
             Came::Translated(Box::new(before.translate(scene.image(), access)))
         }
-        Event::Register(number, action) => Came::Accessed(match action {
-            Action::Read => hart.read(number),
-            Action::Write(value) => hart.write(number, value),
-            Action::Set(value, writes) => hart.set(number, value, writes),
-            Action::Clear(value, writes) => hart.clear(number, value, writes),
+        Event::Register(number, action, word) => Came::Accessed(match action {
+            Action::Read => hart.read(number, word),
+            Action::Write(value) => hart.write(number, value, word),
+            Action::Set(value, writes) => hart.set(number, value, writes, word),
+            Action::Clear(value, writes) => hart.clear(number, value, writes, word),
         }),
         Event::Trap(fault) => Came::Stepped(hart.trap(fault)),
-        Event::Perform(instruction) => Came::Stepped(match instruction {
-            Instruction::Ecall => hart.ecall(),
-            Instruction::Ebreak => hart.ebreak(),
-            Instruction::Mret => hart.mret(),
-            Instruction::Sret => hart.sret(),
-            Instruction::Wfi => hart.wfi(),
-            Instruction::SfenceVma => hart.sfence_vma(),
-            Instruction::HfenceVvma => hart.hfence_vvma(),
-            Instruction::HfenceGvma => hart.hfence_gvma(),
+        Event::Ecall => Came::Stepped(hart.ecall()),
+        Event::Ebreak => Came::Stepped(hart.ebreak()),
+        Event::Perform(instruction, word) => Came::Stepped(match instruction {
+            Instruction::Mret => hart.mret(word),
+            Instruction::Sret => hart.sret(word),
+            Instruction::Wfi => hart.wfi(word),
+            Instruction::SfenceVma => hart.sfence_vma(word),
+            Instruction::HfenceVvma => hart.hfence_vvma(word),
+            Instruction::HfenceGvma => hart.hfence_gvma(word),
         }),
         Event::Interrupt => Came::Stepped(hart.interrupt()),
         Event::Show => Came::Shown,

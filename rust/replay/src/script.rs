@@ -4,11 +4,9 @@ use crate::forms::{value, Form, FORMS, MOST};
 use crate::suggest;
 use balcumentri::{Access, Fault, Kind};
 
-/// An instruction without numbers.
+/// A return, a wait or a fence.
 #[derive(Clone, Copy, PartialEq, Eq)]
 pub enum Instruction {
-    Ecall,
-    Ebreak,
     Mret,
     Sret,
     Wfi,
@@ -21,8 +19,6 @@ impl Instruction {
     /// The manual's name.
     pub fn name(self) -> &'static str {
         match self {
-            Instruction::Ecall => "ECALL",
-            Instruction::Ebreak => "EBREAK",
             Instruction::Mret => "MRET",
             Instruction::Sret => "SRET",
             Instruction::Wfi => "WFI",
@@ -90,13 +86,15 @@ pub enum Command<'a> {
     Event(Event),
 }
 
-/// What has an answer.
+/// What has an answer. The last number of a register access and of what is performed is the instruction's word.
 #[derive(Clone, Copy)]
 pub enum Event {
     Translate(Access),
-    Register(u64, Action),
+    Register(u64, Action, u32),
     Trap(Fault),
-    Perform(Instruction),
+    Ecall,
+    Ebreak,
+    Perform(Instruction, u32),
     /// The interrupt that is due is taken.
     Interrupt,
     Show,
@@ -162,6 +160,9 @@ fn command(word: &str, [a, b, c, d, e]: [u64; MOST]) -> Command<'static> {
             width: b,
         })
     };
+    // a word of more than 32 bits does not come here: its line is bad
+    let register = |action, word| Event::Register(a, action, word as u32);
+    let perform = |instruction| Event::Perform(instruction, a as u32);
     Command::Event(match word {
         "image" => return Command::Image { base: a, length: b },
         "put" => {
@@ -186,10 +187,10 @@ fn command(word: &str, [a, b, c, d, e]: [u64; MOST]) -> Command<'static> {
         "fetch" => access(Kind::Fetch),
         "load" => access(Kind::Load),
         "store" => access(Kind::Store),
-        "read" => Event::Register(a, Action::Read),
-        "write" => Event::Register(a, Action::Write(b)),
-        "set" => Event::Register(a, Action::Set(b, c == 1)),
-        "clear" => Event::Register(a, Action::Clear(b, c == 1)),
+        "read" => register(Action::Read, b),
+        "write" => register(Action::Write(b), c),
+        "set" => register(Action::Set(b, c == 1), d),
+        "clear" => register(Action::Clear(b, c == 1), d),
         "trap" => Event::Trap(Fault {
             cause: a,
             value: b,
@@ -197,14 +198,14 @@ fn command(word: &str, [a, b, c, d, e]: [u64; MOST]) -> Command<'static> {
             word: d,
             flag: e == 1,
         }),
-        "ecall" => Event::Perform(Instruction::Ecall),
-        "ebreak" => Event::Perform(Instruction::Ebreak),
-        "mret" => Event::Perform(Instruction::Mret),
-        "sret" => Event::Perform(Instruction::Sret),
-        "wfi" => Event::Perform(Instruction::Wfi),
-        "sfence.vma" => Event::Perform(Instruction::SfenceVma),
-        "hfence.vvma" => Event::Perform(Instruction::HfenceVvma),
-        "hfence.gvma" => Event::Perform(Instruction::HfenceGvma),
+        "ecall" => Event::Ecall,
+        "ebreak" => Event::Ebreak,
+        "mret" => perform(Instruction::Mret),
+        "sret" => perform(Instruction::Sret),
+        "wfi" => perform(Instruction::Wfi),
+        "sfence.vma" => perform(Instruction::SfenceVma),
+        "hfence.vvma" => perform(Instruction::HfenceVvma),
+        "hfence.gvma" => perform(Instruction::HfenceGvma),
         "interrupt" => Event::Interrupt,
         _ => Event::Show,
     })
@@ -254,10 +255,12 @@ impl<'a> Words<'a> {
             let register = matches!(name, "N" | "NUMBER");
             Mistake::at(at, suggest::number(word, register))
         })?;
-        if matches!(name, "WRITES" | "FLAG") && number > 1 {
-            return Err(Mistake::at(at, format!("{name} is 0 or 1, not {number:x}")));
-        }
-        Ok(number)
+        let sentence = match name {
+            "WRITES" | "FLAG" if number > 1 => format!("{name} is 0 or 1, not {number:x}"),
+            "WORD" if form.is_worded() && number > u32::MAX.into() => suggest::long_word(number),
+            _ => return Ok(number),
+        };
+        Err(Mistake::at(at, sentence))
     }
 
     /// The path is the rest of the line, `#` and inner blanks included.
@@ -278,7 +281,12 @@ impl<'a> Words<'a> {
 
     /// Something is missing where the next word would begin, behind a blank.
     fn missing(&self, form: &Form, name: &str) -> Mistake {
-        Mistake::at(self.at + 1, format!("{}; {name} is missing", form.usage()))
+        let hint = match name {
+            "WORD" if form.is_worded() => suggest::NO_WORD,
+            _ => "",
+        };
+        let sentence = format!("{}; {name} is missing{hint}", form.usage());
+        Mistake::at(self.at + 1, sentence)
     }
 }
 

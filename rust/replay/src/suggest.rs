@@ -9,6 +9,10 @@ const SHOWN: usize = 40;
 /// The mark that some editors put before a text.
 const BYTE_ORDER_MARK: &[u8] = b"\xef\xbb\xbf";
 
+/// What follows where the word of an instruction is missing: scripts had none before 2026-02, when a trap's value was 0.
+pub const NO_WORD: &str =
+    ": the instruction's 32 bits, which older scripts lack; with 0 the answers are as they were";
+
 /// A word or a name in a sentence: printable, short, in quotes.
 pub fn shown(bytes: &[u8]) -> String {
     // no character has more than four bytes
@@ -98,6 +102,11 @@ pub fn number(text: &[u8], register: bool) -> String {
         return format!("{bad}it has {} digits, and 16 are the most", text.len());
     }
     format!("{bad}a number is 1 to 16 hexadecimal digits")
+}
+
+/// A number that is no word of an instruction.
+pub fn long_word(number: u64) -> String {
+    format!("WORD is the instruction's 32 bits, at most ffffffff, not {number:x}")
 }
 
 /// The number of the register that was named, or almost.

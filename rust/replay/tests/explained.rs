@@ -76,7 +76,7 @@ fn written(option: &str, script: &str) -> String {
 }
 
 /// The explanations of a script, without answers and the lines that quote the script.
-fn lines(script: &str) -> Vec<String> {
+fn all_lines(script: &str) -> Vec<String> {
     let text = written("--explain", script);
     let lines = text.lines().filter_map(|line| line.strip_prefix("# "));
     lines
@@ -85,17 +85,24 @@ fn lines(script: &str) -> Vec<String> {
         .collect()
 }
 
+/// The same without what is said about words.
+fn lines(script: &str) -> Vec<String> {
+    let mut lines = all_lines(script);
+    lines.retain(|line| !line.starts_with("word: "));
+    lines
+}
+
 #[test]
 fn writes_that_are_ignored_or_not_stored() {
     assert_eq!(
-        lines("reg 180 8000000000000001\nwrite 180 5000000000000000\n"),
+        lines("reg 180 8000000000000001\nwrite 180 5000000000000000 0\n"),
         [
             "write to satp (180) in M at 0: done, on in M at 4",
             "the write is ignored: MODE 5 is neither 0 nor 8; satp (180) stays 8000000000000001",
         ]
     );
     assert_eq!(
-        lines("reg 680 8000000000000004\nwrite 680 5000000000000009\n"),
+        lines("reg 680 8000000000000004\nwrite 680 5000000000000009 0\n"),
         [
             "write to hgatp (680) in M at 0: done, on in M at 4",
             "hgatp (680) 8000000000000004 becomes 8000000000000008: PPN 4 (address 4000) to 8 (address 8000)",
@@ -104,7 +111,7 @@ fn writes_that_are_ignored_or_not_stored() {
         ]
     );
     assert_eq!(
-        lines("set 300 1000 1\n"),
+        lines("set 300 1000 1 0\n"),
         [
             "set of bits in mstatus (300) in M at 0: done, on in M at 4",
             "mstatus (300) stays a00000000",
@@ -112,7 +119,7 @@ fn writes_that_are_ignored_or_not_stored() {
         ]
     );
     assert_eq!(
-        lines("hart 1 1 0\nclear 100 2 1\nset 142 1 0\n"),
+        lines("hart 1 1 0\nclear 100 2 1 0\nset 142 1 0 0\n"),
         [
             "clear of bits in sstatus (100), which is vsstatus (200) here, in VS at 0: done, on in VS at 4",
             "vsstatus (200) stays 200000000",
@@ -137,7 +144,7 @@ fn an_entry_with_w_and_not_r_is_neither_leaf_nor_pointer() {
 #[test]
 fn a_field_that_never_changes_and_bits_by_number() {
     assert_eq!(
-        lines("write 300 900000011\nwrite 142 d\n")[1..],
+        lines("write 300 900000011 0\nwrite 142 d 0\n")[1..],
         [
             "mstatus (300) stays a00000000",
             "UXL 1 is not stored: it is always 2",
@@ -152,21 +159,74 @@ fn a_field_that_never_changes_and_bits_by_number() {
 fn a_return_says_where_it_came_from() {
     let line = |script: &str| lines(script)[1].clone();
     assert_eq!(
-        line("reg 300 8a00000800\nmret\n"),
+        line("reg 300 8a00000800\nmret 0\n"),
         "to VS: MPP was 1 and MPV 1; pc from mepc"
     );
     assert_eq!(
-        line("reg 300 8a00001800\nmret\n"),
+        line("reg 300 8a00001800\nmret 0\n"),
         "to M: MPP was 3, with which MPV (1) does not count; pc from mepc"
     );
     assert_eq!(
-        line("hart 0 1 0\nreg 600 200000080\nsret\n"),
+        line("hart 0 1 0\nreg 600 200000080\nsret 0\n"),
         "to VU: SPP was 0 and SPV 1; pc from sepc"
     );
     assert_eq!(
-        line("hart 1 1 0\nreg 200 200000100\nsret\n"),
+        line("hart 1 1 0\nreg 200 200000100\nsret 0\n"),
         "to VS: vsstatus.SPP was 1; pc from vsepc"
     );
+}
+
+#[test]
+fn a_word_stands_before_the_reason_or_last() {
+    assert_eq!(
+        all_lines("wfi 10500073\n"),
+        ["WFI in M at 0: done, on in M at 4", "word: 10500073 is WFI"]
+    );
+    assert_eq!(
+        all_lines("hart 1 0 1000\nreg 302 400000\nreg 105 2000\nwfi 10500073\n"),
+        [
+            "WFI in VU at 1000: virtual instruction (16) goes to HS at 2000",
+            "to HS: medeleg hands it down, hedeleg does not",
+            "it wrote hstatus SPV 1, SPVP 0, GVA 0; mstatus SPP 0, SPIE 0, SIE 0; sepc 1000; scause 16; stval 10500073; htval 0; htinst 0",
+            "word: 10500073 is WFI",
+            "why: WFI is out of reach in VU",
+        ]
+    );
+    assert_eq!(
+        all_lines("hart 0 1 0\nwrite 340 0 34051073\n"),
+        [
+            "write to mscratch (340) in HS at 0: illegal instruction (2) goes to M at 0",
+            "to M: medeleg does not hand it down",
+            "it wrote mstatus MPV 0, MPP 1, MPIE 0, MIE 0, GVA 0; mepc 0; mcause 2; mtval 34051073; mtval2 0; mtinst 0",
+            "word: 34051073 is CSRRW: x10 written to mscratch (340), the old value to x0",
+            "why: mscratch (340) is out of reach in HS",
+        ]
+    );
+    assert_eq!(
+        all_lines("hart 1 0 0\nreg 302 4\nreg 602 4\nmret ffffffff\n"),
+        [
+            "MRET in VU at 0: illegal instruction (2) goes to VS at 0",
+            "to VS: medeleg and hedeleg hand it down",
+            "it wrote vsstatus SPP 0, SPIE 0, SIE 0; vsepc 0; vscause 2; vstval ffffffff",
+            "word: ffffffff does not fit: it is no SYSTEM instruction",
+            "why: MRET is out of reach in VU",
+        ]
+    );
+    assert_eq!(
+        all_lines("read 1000 2573\n"),
+        [
+            "read of register 1000, which the model does not have, in M at 0: refused as 5: no register number is that large",
+            "word: 2573 does not fit: it is CSRRS: register 0 read to x10",
+            "why: register number 1000 is over fff",
+        ]
+    );
+}
+
+#[test]
+fn events_without_a_word_have_no_line_about_one() {
+    let script = "ecall\nebreak\ntrap 2 0 0 0 0\ninterrupt\nload 0 8\nshow\nhart 1 1 0\ntrap 15 0 0 10500073 1\n";
+    let said = all_lines(script);
+    assert!(!said.iter().any(|line| line.contains("word: ")), "{said:?}");
 }
 
 #[test]
@@ -260,7 +320,7 @@ fn harts_whose_interrupt_registers_no_write_stores() {
 fn bits_that_a_write_to_an_interrupt_register_leaves() {
     assert_eq!(
         lines(
-            "write 303 ff\nreg 344 880\nwrite 344 77f\nreg 344 800\nclear 344 802 1\nwrite 607 2\n"
+            "write 303 ff 0\nreg 344 880\nwrite 344 77f 0\nreg 344 800\nclear 344 802 1 0\nwrite 607 2 0\n"
         ),
         [
             "write to mideleg (303) in M at 0: done, on in M at 4",
@@ -284,7 +344,7 @@ fn bits_that_a_write_to_an_interrupt_register_leaves() {
 
 #[test]
 fn views_say_where_their_bits_are_kept_and_what_their_gate_shuts_off() {
-    let script = "reg 303 466\nreg 344 600\nwrite 144 222\nwrite 104 222\nread 144\n";
+    let script = "reg 303 466\nreg 344 600\nwrite 144 222 0\nwrite 104 222 0\nread 144 0\n";
     assert_eq!(
         lines(script),
         [
@@ -301,7 +361,8 @@ fn views_say_where_their_bits_are_kept_and_what_their_gate_shuts_off() {
             "SEI is not shown: bit 9 of mideleg (303) is 0",
         ]
     );
-    let script = "hart 1 1 0\nreg 603 40\nreg 304 404\nwrite 104 222\nread 104\nset 144 22 1\n";
+    let script =
+        "hart 1 1 0\nreg 603 40\nreg 304 404\nwrite 104 222 0\nread 104 0\nset 144 22 1 0\n";
     assert_eq!(
         lines(script),
         [
@@ -318,7 +379,7 @@ fn views_say_where_their_bits_are_kept_and_what_their_gate_shuts_off() {
             "STI 1 is not stored: hvip (645) alone writes it",
         ]
     );
-    let script = "hart 0 1 0\nwrite 645 444\nwrite 644 0\nwrite 604 4\nwrite 100 2\n";
+    let script = "hart 0 1 0\nwrite 645 444 0\nwrite 644 0 0\nwrite 604 4 0\nwrite 100 2 0\n";
     assert_eq!(
         lines(script),
         [
@@ -524,7 +585,7 @@ fn the_reasons_of_interrupts() {
 
 #[test]
 fn a_cause_register_names_an_interrupt() {
-    let script = "reg 342 8000000000000007\nread 342\nwrite 342 d\nwrite 342 8000000000000000\nreg 242 8000000000000005\nread 242\n";
+    let script = "reg 342 8000000000000007\nread 342 0\nwrite 342 d 0\nwrite 342 8000000000000000 0\nreg 242 8000000000000005\nread 242 0\n";
     let said = lines(script);
     let said: Vec<&str> = said.iter().map(String::as_str).collect();
     assert_eq!(
@@ -564,8 +625,8 @@ fn the_languages_page_shows_what_the_program_writes() {
     let page = Path::new(env!("CARGO_MANIFEST_DIR")).join("../../docs/REPLAY.md");
     let page = std::fs::read_to_string(page).expect("the page is read");
     for script in [
-        "hart 1 1 1000\nreg 302 400\nreg 105 2000\necall\nwrite 180 5000000000000000\n",
-        "reg 300 a00001000\nwfi\n",
+        "hart 1 1 1000\nreg 302 400\nreg 105 2000\necall\nwrite 180 5000000000000000 18051073\n",
+        "reg 300 a00001000\nwfi 30200073\n",
         "hart 1 0 1000\nreg 205 4001\nreg 603 40\nreg 304 40\nreg 344 40\ninterrupt\n",
     ] {
         let sample = format!("```text\n{}```\n", written("--explain", script));

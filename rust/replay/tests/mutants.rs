@@ -1,6 +1,6 @@
 //! Altered copies of the explainer, one small change each, compiled and run: the golden explanations of the examples or the
-//! comparison with the second program's reasons must catch each of them. This takes minutes, so it runs only when asked for, with
-//! the programs built:
+//! comparison with the second program's words and reasons must catch each of them. This takes minutes, so it runs only when asked
+//! for, with the programs built:
 //!
 //! `cargo build --release && cargo test --release -p replay --test mutants -- --ignored --nocapture`
 
@@ -81,6 +81,64 @@ const MUTANTS: &[Mutant] = &[
     Mutant("reason.rs", "HfenceVvma | HfenceGvma => matches!(mode, Mode::M | Mode::Hs),", "HfenceVvma | HfenceGvma => mode == Mode::M,"),
     Mutant("reason.rs", "(Wfi, Mode::Vs) => set(hart, HSTATUS, \"VTW\")", "(Wfi, Mode::Vs) => set(hart, HSTATUS, \"VTSR\")"),
     Mutant("reason.rs", "(SfenceVma | HfenceGvma, Mode::Hs)", "(HfenceVvma | HfenceGvma, Mode::Hs)"),
+    // which instruction a word is
+    Mutant("word.rs", "(0x73, 0) => Decoded::without_register(word),", "(0x73, 0) => Decoded::OtherSystem,"),
+    Mutant("word.rs", "Access::of(word, Change::Write)", "Access::of(word, Change::Set)"),
+    Mutant("word.rs", "Access::of(word, Change::Set)", "Access::of(word, Change::Clear)"),
+    Mutant("word.rs", "Access::of(word, Change::Clear)", "Access::of(word, Change::Set)"),
+    Mutant("word.rs", "(bits(word, 6, 0), bits(word, 13, 12))", "(bits(word, 6, 0), bits(word, 14, 12))"),
+    Mutant("word.rs", "(bits(word, 6, 0), bits(word, 13, 12))", "(bits(word, 6, 0) | 1, bits(word, 13, 12))"),
+    Mutant("word.rs", "_ => Decoded::NoSystem,", "_ => Decoded::OtherSystem,"),
+    Mutant("word.rs", "_ => Decoded::OtherSystem,", "_ => Decoded::NoSystem,"),
+    Mutant("word.rs", "0x0000_0073, ..", "0x0020_0073, .."),
+    Mutant("word.rs", "0x0010_0073, ..", "0x0020_0073, .."),
+    Mutant("word.rs", "0x3020_0073, ..", "0x2020_0073, .."),
+    Mutant("word.rs", "0x1020_0073, ..", "0x2020_0073, .."),
+    Mutant("word.rs", "0x1050_0073, ..", "0x1040_0073, .."),
+    Mutant("word.rs", "(_, 0x09, 0) =>", "(_, 0x0b, 0) =>"),
+    Mutant("word.rs", "(_, 0x11, 0) =>", "(_, 0x13, 0) =>"),
+    Mutant("word.rs", "(_, 0x31, 0) =>", "(_, 0x33, 0) =>"),
+    Mutant("word.rs", "bits(word, 14, 7))", "bits(word, 14, 12))"),
+    Mutant("word.rs", "bits(word, 14, 7))", "bits(word, 11, 7))"),
+    Mutant("word.rs", "bits(word, 19, 15), bits(word, 24, 20)", "bits(word, 24, 20), bits(word, 19, 15)"),
+    Mutant("word.rs", "let source = bits(word, 19, 15);", "let source = bits(word, 18, 15);"),
+    Mutant("word.rs", "match bits(word, 14, 14) {", "match bits(word, 15, 15) {"),
+    Mutant("word.rs", "bits(word, 31, 20).into()", "bits(word, 30, 20).into()"),
+    Mutant("word.rs", "target: bits(word, 11, 7)", "target: bits(word, 10, 7)"),
+    // whether it fits the event
+    Mutant("word.rs", "one == other\n", "one == other || matches!(self, Decoded::Plain(_))\n"),
+    Mutant("word.rs", "one == other\n", "one == other || matches!(self, Decoded::Fence(..))\n"),
+    Mutant("word.rs", "access.number == *number &&", "access.number == *number & 0xfff &&"),
+    Mutant("word.rs", "access.number == *number &&", "access.number & 0xff == *number & 0xff &&"),
+    Mutant("word.rs", "(Write, Action::Write(value)) => self.source.gives(value)", "(Write, Action::Write(_)) => true"),
+    Mutant("word.rs", "!reads && self.source.gives(value)", "self.source.gives(value)"),
+    Mutant("word.rs", "!reads && self.source.gives(value)", "!reads || value == 0"),
+    Mutant("word.rs", "(Set, Action::Set(value, true)) |", "(Set | Clear, Action::Set(value, true)) |"),
+    Mutant("word.rs", "| (Clear, Action::Clear(value, true))", "| (Set | Clear, Action::Clear(value, true))"),
+    Mutant("word.rs", "(Set | Clear, Action::Read)", "(Set, Action::Read)"),
+    Mutant("word.rs", "| (Set, Action::Set(_, false))", "| (Set | Clear, Action::Set(_, false))"),
+    Mutant("word.rs", "| (Clear, Action::Clear(_, false))", "| (Set | Clear, Action::Clear(_, false))"),
+    Mutant("word.rs", "Action::Clear(_, false)) => reads,", "Action::Clear(_, false)) => true,"),
+    Mutant("word.rs", "Source::Register(0) | Source::Number(0)", "Source::Register(0)"),
+    Mutant("word.rs", "register != 0 || value == 0", "value == 0 || register < 32"),
+    Mutant("word.rs", "value == number.into()", "value as u32 == number"),
+    // its words
+    Mutant("word.rs", "{word:x} {is} {decoded}", "{word:08x} {is} {decoded}"),
+    Mutant("word.rs", "(Change::Write, Source::Number(_)) => \"CSRRWI\"", "(Change::Write, Source::Number(_)) => \"CSRRW\""),
+    Mutant("word.rs", "(Change::Set, Source::Number(_)) => \"CSRRSI\"", "(Change::Set, Source::Number(_)) => \"CSRRS\""),
+    Mutant("word.rs", "(Change::Clear, Source::Register(_)) => \"CSRRC\"", "(Change::Clear, Source::Register(_)) => \"CSRRS\""),
+    Mutant("word.rs", "(Change::Clear, Source::Number(_)) => \"CSRRCI\"", "(Change::Clear, Source::Number(_)) => \"CSRRC\""),
+    Mutant("word.rs", "Instruction::HfenceGvma => fenced(*space, \"VMID\", \"VMIDs\"),", ""),
+    Mutant("word.rs", "0 => format!(\"all {all}\"),", "32 => format!(\"all {all}\"),"),
+    Mutant("word.rs", "the {one} in x{register}", "the {one} in x{register:x}"),
+    Mutant("word.rs", "None => format!(\"register {:x}\", self.number),", "None => registers::title(self.number),"),
+    Mutant("word.rs", "_ if source.is_zero() =>", "_ if source.is_zero() && target == 32 =>"),
+    Mutant("word.rs", "read to x{target}", "read to x{target:x}"),
+    Mutant("word.rs", "the old value to x{target}", "the old value to x{target:x}"),
+    Mutant("word.rs", "write!(text, \"x{register}\")", "write!(text, \"x{register:x}\")"),
+    Mutant("word.rs", "write!(text, \"{number:x}\")", "write!(text, \"{number}\")"),
+    Mutant("explain.rs", "word::described(happened.event)", "word::described(happened.event).filter(|_| explanation.why.is_none())"),
+    Mutant("explain.rs", "word::described(happened.event)", "word::described(happened.event).filter(|_| explanation.why.is_some())"),
     // why an interrupt was taken, or none
     Mutant("pending.rs", "[11, 3, 7, 9, 1, 5, 10, 2, 6]", "[11, 3, 7, 9, 1, 5, 10, 6, 2]"),
     Mutant("pending.rs", "[Mode::M, Mode::Hs, Mode::Vs]", "[Mode::Hs, Mode::M, Mode::Vs]"),

@@ -50,19 +50,60 @@ fn nothing_answers_nothing() {
 
 #[test]
 fn events_are_answered() {
-    assert_eq!(answers(b"read 300\n"), "value a00000000\n");
-    assert_eq!(answers(b"read FFF\nread 342\n"), "value 0\nvalue 2\n");
-    assert_eq!(answers(b"read 1000"), "refused 5\n");
+    assert_eq!(answers(b"read 300 0\n"), "value a00000000\n");
+    assert_eq!(answers(b"read FFF 0\nread 342 0\n"), "value 0\nvalue 2\n");
+    assert_eq!(answers(b"read 1000 0"), "refused 5\n");
     assert_eq!(answers(b"hart 1 1 0\necall\n"), "ok\n");
     assert_eq!(answers(b"load 0 8\n"), "fault 5 0 0 0 0\n");
     assert_eq!(answers(b"load 1 8\n"), "fault 4 1 0 0 0\n");
     assert_eq!(answers(b"hart 7 1 0\nload 0 8\n"), "refused 2\n");
 }
 
+/// Every event that takes a word, without it.
+const WORDED: [&str; 10] = [
+    "read 340",
+    "write 340 1",
+    "set 340 1 1",
+    "clear 340 1 0",
+    "mret",
+    "sret",
+    "wfi",
+    "sfence.vma",
+    "hfence.vvma",
+    "hfence.gvma",
+];
+
+#[test]
+fn a_trap_shows_the_word() {
+    for event in WORDED {
+        for (word, value) in [
+            ("0", "0"),
+            ("80000001", "80000001"),
+            ("00FFffffFF", "ffffffff"),
+        ] {
+            // U: each of them traps with cause 2 into M
+            let script = format!("hart 0 0 0\nreg 343 7\n{event} {word}\nread 343 0\n");
+            let shown = answers(script.as_bytes());
+            assert!(shown.ends_with(&format!("\nvalue {value}\n")), "{event}");
+        }
+    }
+    let mtval = |script: &str| answers(format!("{script}read 343 0\n").as_bytes());
+    assert_eq!(
+        mtval("reg 343 7\nwfi 10500073\nread 1000 1\n"),
+        "ok\nrefused 5\nvalue 7\n",
+        "what is done or refused looks at no word"
+    );
+    assert_eq!(
+        mtval("hart 0 0 0\nwfi 10500073\necall\n"),
+        "ok\nok\nvalue 0\n",
+        "an environment call has no word"
+    );
+}
+
 #[test]
 fn interrupts_are_answered() {
     let pending = "hart 0 0 10\nreg 304 80\nreg 344 80\n";
-    let taken = answers(format!("{pending}interrupt\nread 341\nread 342\n").as_bytes());
+    let taken = answers(format!("{pending}interrupt\nread 341 0\nread 342 0\n").as_bytes());
     assert_eq!(taken, "ok\nvalue 10\nvalue 8000000000000007\n");
     let shown = answers(b"hart 0 0 10\nreg 344 80\nshow\n");
     assert_eq!(
@@ -96,7 +137,7 @@ fn what_show_writes_is_a_script() {
 
 #[test]
 fn a_comment_starts_anywhere_but_in_a_path() {
-    assert_eq!(answers(b"read 300#\xff\n"), "value a00000000\n");
+    assert_eq!(answers(b"read 300 0#\xff\n"), "value a00000000\n");
     assert_eq!(bad(b"file 0#x\n"), Some("1".to_owned()));
     assert_eq!(
         bad(b"file 0 #there-is-no-such-file\n"),
@@ -113,7 +154,9 @@ fn bad_lines_end_the_run() {
         "load 0x0 8",
         "load 00000000000000000 8",
         "load +1 8",
-        "set 300 0 2",
+        "set 300 0 2 0",
+        "ecall 73",
+        "ebreak 100073",
         "trap 2 0 0 0 10",
         "put 0 0",
         "reg 100 0",
@@ -139,6 +182,22 @@ fn bad_lines_end_the_run() {
     }
 }
 
+#[test]
+fn a_word_has_32_bits_and_stands_alone() {
+    let bad = |event, word| bad(format!("{event}{word}\n").as_bytes());
+    for event in WORDED {
+        for word in [" 0", " ffffffff", " 00000000FFFFFFFF"] {
+            assert_eq!(bad(event, word), None, "{event}{word}");
+        }
+        let longer = [" 100000000", " ffffffffffffffff", " 00000000000000000"];
+        for word in ["", " 0 0", " 0x0", " -1"].into_iter().chain(longer) {
+            assert_eq!(bad(event, word), Some("1".to_owned()), "{event}{word}");
+        }
+    }
+    let requested = answers(b"trap 15 0 0 ffffffffffffffff 1\n");
+    assert_eq!(requested, "ok\n", "a trap request's word is the model's");
+}
+
 /// The sentence about a script's first line, without the script's name.
 fn sentence(line: &[u8]) -> String {
     let output = replay(&[], line);
@@ -155,14 +214,14 @@ fn a_bad_line_is_told_by_its_place_and_what_to_write() {
         (&b"hart"[..], "6: hart takes V P PC; V is missing"),
         (b"hart 1 1  # no pc", "10: hart takes V P PC; PC is missing"),
         (b"hart 1 1 0 4", "12: hart takes V P PC; `4` is too much"),
-        (b"\twfi 0", "6: wfi takes no number; `0` is too much"),
+        (b"\tebreak 0", "9: ebreak takes no number; `0` is too much"),
         (b"file 0#x", "8: file takes BASE PATH; PATH is missing"),
         (b"load 0x80000000 8", "6: `0x80000000` is no number: numbers are hexadecimal without a prefix, `80000000`"),
         (b"load 8000_0000 8", "6: `8000_0000` is no number: a number's digits stand together, `80000000`"),
         (b"load 00000000000000000 8", "6: `00000000000000000` is no number: it has 17 digits, and 16 are the most"),
         (b"load -1 8", "6: `-1` is no number: a number is 1 to 16 hexadecimal digits"),
         (b"reg mstatsu 0", "5: `mstatsu` is no number: did you mean mstatus, which is 300?"),
-        (b"read hgatp", "6: `hgatp` is no number: registers go by number: hgatp, which is 680"),
+        (b"read hgatp 0", "6: `hgatp` is no number: registers go by number: hgatp, which is 680"),
         (b"load satp 8", "6: `satp` is no number: a number is 1 to 16 hexadecimal digits"),
         (b"Load 0 8", "1: `Load` is no word of the language: words are lower case, `load`"),
         (b" lod 0 8", "2: `lod` is no word of the language: did you mean load?"),
@@ -172,7 +231,12 @@ fn a_bad_line_is_told_by_its_place_and_what_to_write() {
         (b"fence", "1: `fence` is no word of the language: did you mean sfence.vma or hfence.vvma or hfence.gvma?"),
         (b"load 80000000,8", "6: `80000000,8` is no number: numbers are separated by blanks, without commas"),
         (b"file 0\t #no-such-file", "9: `#no-such-file` can't be read: No such file or directory (os error 2); its path starts from the working directory"),
-        (b"set 300 0 2", "11: WRITES is 0 or 1, not 2"),
+        (b"set 300 0 2 0", "11: WRITES is 0 or 1, not 2"),
+        (b"wfi 100000000", "5: WORD is the instruction's 32 bits, at most ffffffff, not 100000000"),
+        (b"clear 300 0 1 123456789abcdef0", "15: WORD is the instruction's 32 bits, at most ffffffff, not 123456789abcdef0"),
+        (b"read 300 30002573 0", "19: read takes N WORD; `0` is too much"),
+        (b"write 300", "11: write takes N VALUE WORD; VALUE is missing"),
+        (b"trap 2 0 0", "12: trap takes CAUSE VALUE SECOND WORD FLAG; WORD is missing"),
         (b"trap 2 0 0 0 10", "14: FLAG is 0 or 1, not 10"),
         (b"put 8 0", "5: the eight bytes at 8 don't lie in the image, which is empty"),
         (b"reg 100 0", "5: sstatus (100) is not stored: it is a view of mstatus (300)"),
@@ -182,14 +246,28 @@ fn a_bad_line_is_told_by_its_place_and_what_to_write() {
         (b"reg 645 0", "5: hvip (645) is not stored: it is a view of mip (344)"),
         (b"reg 607 0", "5: hgeie (607) is not stored: it is a constant"),
         (b"reg 123 0", "5: the model has no register 123"),
-        (b"read mideleg", "6: `mideleg` is no number: registers go by number: mideleg, which is 303"),
-        (b"read hvpi", "6: `hvpi` is no number: did you mean hvip, which is 645?"),
+        (b"read mideleg 0", "6: `mideleg` is no number: registers go by number: mideleg, which is 303"),
+        (b"read hvpi 0", "6: `hvpi` is no number: did you mean hvip, which is 645?"),
         (b"interrupt 7", "11: interrupt takes no number; `7` is too much"),
         (b"interupt", "1: `interupt` is no word of the language: did you mean interrupt?"),
         (b"INTERRUPT", "1: `INTERRUPT` is no word of the language: words are lower case, `interrupt`"),
         (b"image 0 1000000000000000", "9: an image of 1000000000000000 bytes is more than this program holds"),
     ] {
         assert_eq!(sentence(line), told, "{}", line.escape_ascii());
+    }
+}
+
+#[test]
+fn a_line_of_an_older_script_is_told_what_it_lacks() {
+    for (line, told) in [
+        (&b"wfi"[..], "5: wfi takes WORD"),
+        (b"\tsfence.vma\r", "13: sfence.vma takes WORD"),
+        (b"read 300 # mstatus", "10: read takes N WORD"),
+        (b"write 300 0", "13: write takes N VALUE WORD"),
+        (b"set 300 8 1", "13: set takes N VALUE WRITES WORD"),
+    ] {
+        let lacks = "WORD is missing: the instruction's 32 bits, which older scripts lack; with 0 the answers are as they were";
+        assert_eq!(sentence(line), format!("{told}; {lacks}"));
     }
 }
 
@@ -212,13 +290,13 @@ fn a_path_is_shown_without_its_folders_and_printable() {
 fn an_error_names_the_scripts_file_and_line() {
     let folder = Folder::new().expect("a folder is made");
     let file = folder.path().join("a script.replay");
-    std::fs::write(&file, "wfi\n\nwfi 0\n").expect("the script is written");
+    std::fs::write(&file, "ecall\n\necall 0\n").expect("the script is written");
     let output = replay(&[file.to_str().expect("the path is text")], b"");
     assert_eq!(output.stdout, b"ok\nerror 3\n");
     let said = String::from_utf8_lossy(&output.stderr).into_owned();
     assert_eq!(
         said,
-        "a script.replay:3:5: wfi takes no number; `0` is too much\n"
+        "a script.replay:3:7: ecall takes no number; `0` is too much\n"
     );
 }
 
@@ -247,13 +325,13 @@ fn a_raw_image_is_told_before_its_end() {
         );
         assert!(said.contains("`file BASE PATH`"), "{said}");
     }
-    assert_eq!(answers(b"wfi # \0\n#\0\nwfi\n"), "ok\nok\n");
+    assert_eq!(answers(b"wfi 0 # \0\n#\0\nwfi 0\n"), "ok\nok\n");
 }
 
 #[test]
 fn a_line_has_an_end() {
     let most = 1 << 24;
-    let comment = |length| [&b"wfi\n#"[..], &b"x".repeat(length - 1), b"\nwfi\n"].concat();
+    let comment = |length| [&b"wfi 0\n#"[..], &b"x".repeat(length - 1), b"\nwfi 0\n"].concat();
     assert_eq!(from_file(&comment(most)).stdout, b"ok\nok\n");
     let output = from_file(&comment(most + 1));
     assert_eq!(output.stdout, b"ok\nerror 2\n");
@@ -280,11 +358,11 @@ fn whoever_waits_for_an_answer_gets_it() {
         }
     });
     for (pieces, answer) in [
-        (&["read 300\n"][..], "value a00000000"),
-        (&["read", " 305\n"], "value 0"),
-        (&["# a comment\nwfi\nre"], "ok"),
-        (&["ad 300\nwf"], "value a00000000"),
-        (&["i\n"], "ok"),
+        (&["read 300 0\n"][..], "value a00000000"),
+        (&["read", " 305 0\n"], "value 0"),
+        (&["# a comment\nwfi 0\nre"], "ok"),
+        (&["ad 300 0\nwf"], "value a00000000"),
+        (&["i 0\n"], "ok"),
     ] {
         for piece in pieces {
             input
@@ -316,7 +394,7 @@ fn a_put_lies_whole_in_the_image() {
 #[test]
 fn explanations_are_comments() {
     let script =
-        b"hart 1 1 0\nreg 680 8000000000000000\nload 40 8\necall\nread 100\nshow\nload 1 3\n";
+        b"hart 1 1 0\nreg 680 8000000000000000\nload 40 8\necall\nread 100 0\nshow\nload 1 3\n";
     let explained = replay(&["--explain"], script).stdout;
     let plain: String = String::from_utf8(explained)
         .expect("answers are text")
@@ -349,18 +427,18 @@ fn options() {
         (&["--"], "ok\n"),
         (&["-", "--"], "ok\n"),
         (&["--", "-"], "ok\n"),
-        (&["--explain", "-"], "ok\n# line 1: wfi\n"),
+        (&["--explain", "-"], "ok\n# line 1: wfi 0\n"),
         (
             &["--explain=tree", "--", "/dev/stdin"],
-            "ok\n# line 1: wfi\n",
+            "ok\n# line 1: wfi 0\n",
         ),
     ] {
-        let output = replay(arguments, b"wfi\n");
+        let output = replay(arguments, b"wfi 0\n");
         let text = String::from_utf8_lossy(&output.stdout).into_owned();
         assert_eq!(output.status.code(), Some(0), "{arguments:?}");
         assert!(text.starts_with(begins), "{arguments:?}: {text}");
     }
-    let output = replay(&["--", "--explain"], b"wfi\n");
+    let output = replay(&["--", "--explain"], b"wfi 0\n");
     assert_eq!(output.status.code(), Some(2), "a file of that name");
 }
 
@@ -434,7 +512,7 @@ fn answers_that_cannot_be_written() {
             .spawn()
             .expect("the program starts");
         let mut stdin = child.stdin.take().expect("standard input is a pipe");
-        let _ = stdin.write_all(b"wfi\n");
+        let _ = stdin.write_all(b"wfi 0\n");
         drop(stdin);
         let output = child.wait_with_output().expect("the program ends");
         assert_eq!(output.status.code(), Some(2));
@@ -482,17 +560,17 @@ fn images_of_128_mib_and_more() {
 #[test]
 fn a_million_lines() {
     let lines = 1_000_000;
-    let output = from_file(&b"wfi\n".repeat(lines));
+    let output = from_file(&b"wfi 0\n".repeat(lines));
     assert_eq!(output.status.code(), Some(0));
     assert_eq!(output.stdout, b"ok\n".repeat(lines));
-    let bad = [&b"\n".repeat(lines)[..], b"wfi 0"].concat();
+    let bad = [&b"\n".repeat(lines)[..], b"wfi"].concat();
     assert_eq!(from_file(&bad).stdout, b"error f4241\n");
 }
 
 #[test]
 fn very_long_lines() {
     let blanks = b" ".repeat(5_000_000);
-    let line = [&blanks[..], b"read 300", &blanks, b"# end"].concat();
+    let line = [&blanks[..], b"read 300 0", &blanks, b"# end"].concat();
     assert_eq!(from_file(&line).stdout, b"value a00000000\n");
     for byte in [b"f", b"0", b"\0"] {
         let output = from_file(&[&b"read "[..], &byte.repeat(5_000_000)].concat());

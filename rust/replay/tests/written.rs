@@ -266,17 +266,17 @@ fn interrupted_hart(rng: &mut Rng) -> String {
     lines
 }
 
-/// An access to one of the interrupt registers, or to sstatus.
+/// An access to one of the interrupt registers, or to sstatus, with any word.
 fn interrupt_access(rng: &mut Rng) -> String {
     let numbers = [
         0x100, 0x104, 0x144, 0x204, 0x244, 0x303, 0x304, 0x344, 0x603, 0x604, 0x607, 0x644, 0x645,
     ];
-    let (number, value) = (rng.pick(&numbers), rng.number());
+    let (number, value, word) = (rng.pick(&numbers), rng.number(), rng.bits() as u32);
     match rng.below(4) {
-        0 => format!("read {number:x}\n"),
-        1 => format!("write {number:x} {value:x}\n"),
-        2 => format!("set {number:x} {value:x} {}\n", rng.below(2)),
-        _ => format!("clear {number:x} {value:x} {}\n", rng.below(2)),
+        0 => format!("read {number:x} {word:x}\n"),
+        1 => format!("write {number:x} {value:x} {word:x}\n"),
+        2 => format!("set {number:x} {value:x} {} {word:x}\n", rng.below(2)),
+        _ => format!("clear {number:x} {value:x} {} {word:x}\n", rng.below(2)),
     }
 }
 

@@ -159,6 +159,7 @@ fn c_words(declaration: &str) -> (String, String) {
     let start = declaration.rfind([' ', '*']).expect("a type and a name") + 1;
     let kind = match declaration[..start].trim() {
         "uint64_t" => "u64",
+        "uint32_t" => "u32",
         "size_t" => "usize",
         "bool" => "bool",
         "const uint64_t *" => "*const u64",
@@ -362,7 +363,7 @@ fn header_defines_what_the_calls_answer() {
         ("STEP_WORDS", size("STEP")),
         ("ACCESS_WORDS", size("ACCESS")),
         ("TRANSLATION_WORDS", size("TRANSLATION")),
-        ("DONE", came_to(wfi(&reset(0, 3, 0)))),
+        ("DONE", came_to(wfi(&reset(0, 3, 0), 0))),
         ("TRAPPED", came_to(ecall(&reset(0, 3, 0)))),
         ("ADDRESS", translated(0, 0, 4).1),
         ("FAULT", translated(0, OUTSIDE, 4).1),
