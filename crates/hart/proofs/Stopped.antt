@@ -11,26 +11,26 @@ use Rattle.hart.specs.declared.event.Stop.the-variants.{Goes, Halts}
 use Rattle.hart.specs.Event.{done, refused, raised, stopOf, settledBy, settled}
 use Rattle.hart.specs.Access.{answer}
 
-pub goes : {stop : Stop} (h : Hart) (own : ℕ) (v : Verdict) (word : ℕ) (finished : Step) → stop ≡ stopOf h own v → stop ≡ Goes → finished ≡ settled h own v word finished
+pub goes : {stop : Stop} (h : Hart) (own : ℕ) (v : Verdict) (value : ℕ) (finished : Step) → stop ≡ stopOf h own v → stop ≡ Goes → finished ≡ settled h own v value finished
 unfolding settled
-goes h own v word finished e g = ap (λ (s : Stop). settledBy s h word finished) (sym g ∙ e)
+goes h own v value finished e g = ap (λ (s : Stop). settledBy s h value finished) (sym g ∙ e)
 
-pub halts : {stop : Stop} {r : Bool} {n : ℕ} (h : Hart) (own : ℕ) (v : Verdict) (word : ℕ) (finished : Step) → stop ≡ stopOf h own v → stop ≡ Halts r n
-    → pick r (refused h n) (raised h n word) ≡ settled h own v word finished
+pub halts : {stop : Stop} {r : Bool} {n : ℕ} (h : Hart) (own : ℕ) (v : Verdict) (value : ℕ) (finished : Step) → stop ≡ stopOf h own v → stop ≡ Halts r n
+    → pick r (refused h n) (raised h n value) ≡ settled h own v value finished
 unfolding settled
-halts h own v word finished e g = ap (λ (s : Stop). settledBy s h word finished) (sym g ∙ e)
+halts h own v value finished e g = ap (λ (s : Stop). settledBy s h value finished) (sym g ∙ e)
 
 -- ---- a register access
 
-pub goes-answer : {stop : Stop} (h : Hart) (own : ℕ) (v : Verdict) (word : ℕ) (next : Hart) (old : ℕ) → stop ≡ stopOf h own v → stop ≡ Goes
-    → answer (done next) old ≡ answer (settled h own v word (done next)) old
-goes-answer h own v word next old e g = ap (λ (s : Step). answer s old) (goes h own v word (done next) e g)
+pub goes-answer : {stop : Stop} (h : Hart) (own : ℕ) (v : Verdict) (value : ℕ) (next : Hart) (old : ℕ) → stop ≡ stopOf h own v → stop ≡ Goes
+    → answer (done next) old ≡ answer (settled h own v value (done next)) old
+goes-answer h own v value next old e g = ap (λ (s : Step). answer s old) (goes h own v value (done next) e g)
 
 -- what halts answers 0, whatever was seen
-halted : (r : Bool) (h : Hart) (n word old : ℕ) → answer (pick r (refused h n) (raised h n word)) 0 ≡ answer (pick r (refused h n) (raised h n word)) old
-halted true h n word old = refl
-halted false h n word old = refl
+halted : (r : Bool) (h : Hart) (n value old : ℕ) → answer (pick r (refused h n) (raised h n value)) 0 ≡ answer (pick r (refused h n) (raised h n value)) old
+halted true h n value old = refl
+halted false h n value old = refl
 
-pub halts-answer : {stop : Stop} {r : Bool} {n : ℕ} (h : Hart) (own : ℕ) (v : Verdict) (word : ℕ) (finished : Step) (old : ℕ) → stop ≡ stopOf h own v → stop ≡ Halts r n
-    → answer (pick r (refused h n) (raised h n word)) 0 ≡ answer (settled h own v word finished) old
-halts-answer {stop} {r} {n} h own v word finished old e g = halted r h n word old ∙ ap (λ (s : Step). answer s old) (halts h own v word finished e g)
+pub halts-answer : {stop : Stop} {r : Bool} {n : ℕ} (h : Hart) (own : ℕ) (v : Verdict) (value : ℕ) (finished : Step) (old : ℕ) → stop ≡ stopOf h own v → stop ≡ Halts r n
+    → answer (pick r (refused h n) (raised h n value)) 0 ≡ answer (settled h own v value finished) old
+halts-answer {stop} {r} {n} h own v value finished old e g = halted r h n value old ∙ ap (λ (s : Step). answer s old) (halts h own v value finished e g)

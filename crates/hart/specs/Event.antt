@@ -43,9 +43,9 @@ plain cause value = record { cause = cause; value = value; value2 = 0; word = 0;
 abbrev pub raised : Hart → (cause word : ℕ) → Step
 raised h cause word = trapped h (plain cause word)
 
--- an event that has no word, and gives neither 2 nor 22: environment call, breakpoint, trap request, interrupt
-abbrev pub no-word : ℕ
-no-word = 0
+-- environment calls, breakpoints, trap requests and interrupts have no word, and give neither 2 nor 22
+abbrev pub no-value : ℕ
+no-value = 0
 
 -- a refusal, or a cause that is raised
 abbrev pub refuses : ℕ → Stop

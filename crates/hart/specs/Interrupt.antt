@@ -9,7 +9,7 @@ use Rattle.hart.specs.declared.event.Outcome.the-variants.{Interrupted}
 use Rattle.hart.specs.declared.event.Step.{Step}
 use Rattle.hart.specs.Hart.{context, lines}
 use Rattle.hart.specs.Deliver.{deliveredTo}
-use Rattle.hart.specs.Event.{no-word, step, done, settled}
+use Rattle.hart.specs.Event.{no-value, step, done, settled}
 
 -- taken, or none is due
 abbrev pub taking : Hart → Due → Step
@@ -17,4 +17,4 @@ taking h (To to n) = step (deliveredTo to h (interruption to n)) (Interrupted n)
 taking h Nothing = done h
 
 unfoldable pub interrupt : Hart → Step
-interrupt h = settled h 0 (gives false false) no-word (taking h (chosen (context h) (lines h)))
+interrupt h = settled h 0 (gives false false) no-value (taking h (chosen (context h) (lines h)))

@@ -9,11 +9,11 @@ use Rattle.delivery.specs.Delivery.{callCause, breakpoint}
 use Rattle.hart.specs.declared.state.Hart.{Hart}
 use Rattle.hart.specs.declared.event.Step.{Step}
 use Rattle.hart.specs.Hart.{context}
-use Rattle.hart.specs.Event.{no-word, settled, trapped, plain}
+use Rattle.hart.specs.Event.{no-value, settled, trapped, plain}
 
 -- a trap, unless refused
 abbrev pub trapping : Hart → ℕ → Exception → Step
-trapping h own t = settled h own (gives false false) no-word (trapped h t)
+trapping h own t = settled h own (gives false false) no-value (trapped h t)
 
 -- a trap request is refused as 4 if it can't arise, else delivered
 unfoldable pub trap : Hart → Exception → Step

@@ -31,8 +31,8 @@ pub const ALLOWED: Verdict = Verdict {
     gives22: false,
 };
 
-// An event that has no instruction word, and gives no cause of its own.
-pub const NO_WORD: u32 = 0;
+// For events that have no instruction word, and give no cause of their own.
+pub const NO_VALUE: u32 = 0;
 
 // A cause and its value, the flag clear.
 pub fn plain(cause: u64, value: u64) -> Exception

@@ -40,7 +40,7 @@ impl Hart {
                 let due = interrupts::choose(self.context(), self.lines());
                 self.take_interrupt(due)
             }
-            Stop::Halts(refuses, number) => self.halt(refuses, number, event::NO_WORD),
+            Stop::Halts(refuses, number) => self.halt(refuses, number, event::NO_VALUE),
         }
     }
 }

@@ -15,7 +15,7 @@ impl Hart {
         let stop = self.stops(own, event::ALLOWED);
         match stop {
             Stop::Goes => self.take_trap(t),
-            Stop::Halts(refuses, number) => self.halt(refuses, number, event::NO_WORD),
+            Stop::Halts(refuses, number) => self.halt(refuses, number, event::NO_VALUE),
         }
     }
 

@@ -9,11 +9,14 @@ use second::hart::Mode;
 
 use crate::coverage::Coverage;
 use crate::fuzz::{fuzzed, Corpus};
-use crate::generate::{bad_script, flips_script, interrupts_script, long_script, script};
+use crate::generate::{
+    bad_script, flips_script, interrupts_script, long_script, script, words_script,
+};
 use crate::program::{Outcome, Program, Script, Status};
 use crate::reasons::REASON;
 use crate::scenes::long;
 use crate::shrink::shrink;
+use crate::word_lines::WORD;
 
 /// A run of this many events must reach everything that can be reached.
 pub const FULL_RUN: u64 = 200_000;
@@ -56,7 +59,7 @@ pub enum Failure {
 }
 
 /// Runs both programs over the scripts of a seed: at least so many events, and then those that flip every bit of a hart, those
-/// with everything that interrupts come to and those with the longest lines. Ends at the first difference.
+/// with everything that interrupts and words come to and those with the longest lines. Ends at the first difference.
 pub fn compare(
     first: &dyn Program,
     second: &dyn Program,
@@ -82,6 +85,9 @@ pub fn compare(
             place += 1;
         }
     }
+    let made = words_script(options.seed, folder);
+    compare_and_count(first, second, place, made, &mut coverage)?;
+    place += 1;
     for kind in 0..long::COUNT {
         let made = long_script(options.seed, kind, folder);
         compare_and_count(first, second, place, made, &mut coverage)?;
@@ -202,12 +208,17 @@ fn both(
     Ok((run(first)?, run(second)?))
 }
 
-/// What a program gave with its reasons, without other explanations: of the lines that begin with `# ` those with `# why: `.
+/// What a program gave with its reasons, without other explanations: of the lines that begin with `# ` those with `# why: ` and
+/// `# word: `.
 fn with_reasons_alone(outcome: Outcome) -> Outcome {
     let lines = outcome.output.split_inclusive(|byte| *byte == b'\n');
-    let kept = lines.filter(|line| !line.starts_with(b"# ") || line.starts_with(REASON));
+    let is_kept = |line: &&[u8]| {
+        let explains = line.starts_with(b"# ");
+        !explains || line.starts_with(REASON) || line.starts_with(WORD)
+    };
+    let kept: Vec<&[u8]> = lines.filter(is_kept).collect();
     Outcome {
-        output: kept.flatten().copied().collect(),
+        output: kept.concat(),
         status: outcome.status,
     }
 }

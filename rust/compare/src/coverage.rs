@@ -6,6 +6,7 @@
 
 pub mod bits;
 pub mod interrupts;
+pub mod words;
 
 use std::collections::BTreeMap;
 use std::fmt::Write as _;
@@ -19,7 +20,9 @@ use second::walk::{Key, Kind, Part, Rule};
 
 use crate::coverage::bits::Bits;
 use crate::coverage::interrupts::Interrupts;
+use crate::coverage::words::Words;
 use crate::reasons::{KINDS, REASON};
+use crate::word_lines::WORD;
 
 /// The words of the events, in REPLAY.md's order.
 pub const WORDS: [&str; 18] = [
@@ -92,7 +95,7 @@ pub struct Coverage {
     pub rules: BTreeMap<Key, u64>,
     /// Traps delivered, by cause and target.
     pub delivered: BTreeMap<(u64, Target), u64>,
-    /// Instructions without operands, by word and mode.
+    /// Instructions, by word and mode.
     pub instructions: BTreeMap<(&'static str, Mode), u64>,
     /// Accesses to listed registers, by number and mode.
     pub registers: BTreeMap<(u64, Mode), u64>,
@@ -102,6 +105,8 @@ pub struct Coverage {
     pub interrupts: Interrupts,
     /// Bits of the registers of interrupts.
     pub bits: Bits,
+    /// The words of instructions.
+    pub instruction_words: Words,
     /// Refusals by event word and number.
     pub refused_words: BTreeMap<(&'static str, u64), u64>,
     /// Single flipped bits.
@@ -143,9 +148,9 @@ pub fn event_word(line: &Line) -> Option<&'static str> {
             Action::Clear { .. } => "clear",
         },
         Line::Trap(_) => "trap",
-        Line::Instruction(instruction) => match instruction {
-            Instruction::Ecall => "ecall",
-            Instruction::Ebreak => "ebreak",
+        Line::Ecall => "ecall",
+        Line::Ebreak => "ebreak",
+        Line::Instruction { instruction, .. } => match instruction {
             Instruction::Mret => "mret",
             Instruction::Sret => "sret",
             Instruction::Wfi => "wfi",
@@ -179,6 +184,7 @@ fn add<K: Ord + Copy>(counts: &mut BTreeMap<K, u64>, others: &BTreeMap<K, u64>) 
 impl Coverage {
     /// Notes a line of a script, the hart before it and its answer.
     pub fn note(&mut self, line: &Line, before: &Hart, answer: &Answer) {
+        self.instruction_words.note(line, before, answer);
         let Some(word) = event_word(line) else {
             return;
         };
@@ -227,11 +233,13 @@ impl Coverage {
         answer: &Answer,
     ) {
         match (line, answer) {
-            (Line::Instruction(_), _) => count(&mut self.instructions, (word, mode)),
+            (Line::Ecall | Line::Ebreak | Line::Instruction { .. }, _) => {
+                count(&mut self.instructions, (word, mode));
+            }
             (Line::Interrupt, Answer::Event(outcome)) => {
                 self.interrupts.note(before, mode, outcome);
             }
-            (Line::Register { number, action }, Answer::Register(accessed))
+            (Line::Register { number, action, .. }, Answer::Register(accessed))
                 if find(*number).is_some() =>
             {
                 count(&mut self.registers, (*number, mode));
@@ -263,6 +271,11 @@ impl Coverage {
         for line in output.split(|byte| *byte == b'\n') {
             if let Some(reason) = line.strip_prefix(REASON) {
                 self.note_reason(&String::from_utf8_lossy(reason));
+                continue;
+            }
+            if let Some(said) = line.strip_prefix(WORD) {
+                let said = String::from_utf8_lossy(said);
+                self.instruction_words.note_line(&said);
                 continue;
             }
             let mut words = line.split(|byte| *byte == b' ');
@@ -316,6 +329,7 @@ impl Coverage {
         add(&mut self.translations, &other.translations);
         self.interrupts.add(&other.interrupts);
         self.bits.add(&other.bits);
+        self.instruction_words.add(&other.instruction_words);
         add(&mut self.refused_words, &other.refused_words);
         add(&mut self.flips, &other.flips);
         add(&mut self.refusals, &other.refusals);
@@ -331,12 +345,19 @@ impl Coverage {
     }
 
     /// What must be given as a reason and was not, and what was given and is none.
-    pub fn missing_reasons(&self) -> Vec<String> {
+    fn missing_whys(&self) -> Vec<String> {
         let missing = (0..KINDS.count()).filter(|kind| !self.reasons.contains_key(kind));
         let missing = missing.map(|kind| format!("the reason \"{}\"", KINDS.text(kind)));
         let wrong = self.no_reason.iter();
         let wrong = wrong.map(|text| format!("a reason instead of \"{text}\""));
         missing.chain(wrong).collect()
+    }
+
+    /// What must be given as a reason or said about a word and was not, and what was given or said and is neither.
+    pub fn missing_reasons(&self) -> Vec<String> {
+        let mut missing = self.missing_whys();
+        missing.extend(self.instruction_words.missing_lines());
+        missing
     }
 
     /// What must be reached and was not, but for reasons.
@@ -407,6 +428,7 @@ impl Coverage {
         }
         missing.extend(self.interrupts.missing());
         missing.extend(self.bits.missing());
+        missing.extend(self.instruction_words.missing());
         if self.bad_lines == 0 {
             missing.push("a bad line".to_string());
         }
@@ -466,6 +488,7 @@ impl Coverage {
         );
         self.interrupts.table(text);
         self.bits.table(text);
+        self.instruction_words.table(text);
     }
 
     fn table_of_answers(&self, text: &mut String) {
@@ -540,6 +563,7 @@ impl Coverage {
         for (number, kind) in counts.iter().take(8) {
             let _ = writeln!(text, "  {} {number}", KINDS.text(*kind));
         }
+        self.instruction_words.table_of_lines(text);
     }
 }
 
@@ -649,16 +673,28 @@ mod tests {
         let counts: Vec<u64> = coverage.reasons.values().copied().collect();
         assert_eq!(counts, [1, 2]);
         assert_eq!(coverage.no_reason, None);
-        let missing = coverage.missing_reasons();
+        let missing = coverage.missing_whys();
         assert_eq!(missing.len(), KINDS.count() - 2);
         let of_tsr = "the reason \"mstatus.TSR is 1\"".to_string();
         assert!(missing.contains(&of_tsr));
         coverage.read_output(b"ok\n# why: mstatus.TW is on\n");
-        let missing = coverage.missing_reasons();
+        let missing = coverage.missing_whys();
         assert_eq!(
             missing.last().unwrap(),
             "a reason instead of \"mstatus.TW is on\""
         );
+    }
+
+    #[test]
+    fn what_is_said_about_words_is_counted() {
+        let mut coverage = Coverage::default();
+        let none = coverage.missing_reasons().len();
+        coverage.read_output(b"ok\n# word: 10500073 is WFI\n# why: mstatus.TW is 1\nok\n");
+        assert_eq!(coverage.instruction_words.lines.len(), 1);
+        assert_eq!(coverage.missing_reasons().len(), none - 2);
+        coverage.read_output(b"ok\n# word: wfi\n");
+        let missing = coverage.missing_reasons();
+        assert_eq!(missing.last().unwrap(), "a word instead of \"wfi\"");
     }
 
     #[test]
@@ -691,6 +727,10 @@ mod tests {
             "interrupt 9 to M with interrupt 2 to VS due",
             "no interrupt pending in Hs",
             "bits 222 of 144 in Vs: 1 written and not handed down",
+            "bits ffffffff of a word as 1 in VS's tval, by mret with cause 2",
+            "wfi done, with a word",
+            "set refused as 5, with a word",
+            "an event and its word: write and CSRRW, S 0, N its number, S not its value",
             "a bad line",
         ] {
             assert!(

@@ -30,8 +30,8 @@ impl Corpus {
     }
 }
 
-/// Numbers at limits: of fields, of the image, of the two kinds of address, of a word.
-const LIMITS: [&[u8]; 32] = [
+/// Numbers at limits: of fields, of the image, of the two kinds of address, of a word of 32 and of 64 bits.
+const LIMITS: [&[u8]; 34] = [
     b"0",
     b"1",
     b"2",
@@ -49,6 +49,8 @@ const LIMITS: [&[u8]; 32] = [
     b"4001000",
     b"8000000",
     b"80000000",
+    b"ffffffff",
+    b"100000000",
     b"3fffffffff",
     b"4000000000",
     b"1ffffffffff",
@@ -367,7 +369,7 @@ fn insert_long(rng: &mut Rng, bytes: &mut Vec<u8>) {
         b"\r",
         b"\0",
         b" 0",
-        b"wfi\n",
+        b"wfi 0\n",
     ]);
     let length = match rng.below(20) {
         0 => rng.pick(&[LONGEST_LINE, LONGEST_LINE + 1]),

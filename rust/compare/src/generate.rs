@@ -7,7 +7,7 @@ use second::hart::Mode;
 use crate::coverage::Coverage;
 use crate::program::Script;
 use crate::scenes::{
-    bad, edges, flips, interrupts, journeys, long, refusals, registers, traps, walks,
+    bad, edges, flips, interrupts, journeys, long, refusals, registers, traps, walks, words,
 };
 use crate::scribe::Scribe;
 
@@ -39,9 +39,7 @@ pub fn flips_script(seed: u64, mode: Mode, folder: &Path) -> (Script, Coverage) 
     let mut scribe = Scribe::new(script_seed(seed, !(mode as u64)), folder.to_path_buf());
     edges::around_the_largest(&mut scribe);
     flips::flips(&mut scribe, mode);
-    let (mut script, coverage) = finished(scribe);
-    script.explained = true;
-    (script, coverage)
+    explained(scribe)
 }
 
 /// A script with everything that interrupts can come to in this mode. It always asks for reasons too.
@@ -49,9 +47,15 @@ pub fn interrupts_script(seed: u64, mode: Mode, folder: &Path) -> (Script, Cover
     let place = !(mode as u64 + Mode::ALL.len() as u64);
     let mut scribe = Scribe::new(script_seed(seed, place), folder.to_path_buf());
     interrupts::all_in_turn(&mut scribe, mode);
-    let (mut script, coverage) = finished(scribe);
-    script.explained = true;
-    (script, coverage)
+    explained(scribe)
+}
+
+/// A script with everything that the words of instructions can come to. It always asks for reasons too.
+pub fn words_script(seed: u64, folder: &Path) -> (Script, Coverage) {
+    let place = !(2 * Mode::ALL.len() as u64);
+    let mut scribe = Scribe::new(script_seed(seed, place), folder.to_path_buf());
+    words::all_in_turn(&mut scribe);
+    explained(scribe)
 }
 
 /// A script with one of the longest lines, or with one that is a byte longer and bad, by its place in the run.
@@ -60,7 +64,7 @@ pub fn long_script(seed: u64, place: u64, folder: &Path) -> (Script, Coverage) {
         script_seed(seed.rotate_left(32), place),
         folder.to_path_buf(),
     );
-    scribe.line("wfi");
+    scribe.event("wfi");
     long::long_line(&mut scribe, place);
     finished(scribe)
 }
@@ -78,7 +82,7 @@ pub fn bad_script(seed: u64, place: u64, folder: &Path) -> (Script, Coverage) {
             "load 80000000 8",
             "interrupt",
         ]);
-        scribe.line(line);
+        scribe.event(line);
         if scribe.rng.chance(20) {
             let blank =
                 scribe
@@ -100,6 +104,13 @@ fn finished(mut scribe: Scribe) -> (Script, Coverage) {
         lines: scribe.lines,
     };
     (script, scribe.coverage)
+}
+
+/// The same, asking for reasons in any case.
+fn explained(scribe: Scribe) -> (Script, Coverage) {
+    let (mut script, coverage) = finished(scribe);
+    script.explained = true;
+    (script, coverage)
 }
 
 /// How far the systematic scenes have come. Every script goes on where the one before it in the run stops.

@@ -10,3 +10,4 @@ pub mod refusals;
 pub mod registers;
 pub mod traps;
 pub mod walks;
+pub mod words;

@@ -10,6 +10,7 @@ use second::script::{parse, Answer, Session};
 use crate::coverage::bits::REGISTERS;
 use crate::coverage::Coverage;
 use crate::rng::Rng;
+use crate::words::with_word;
 
 /// A script under construction.
 pub struct Scribe {
@@ -52,6 +53,12 @@ impl Scribe {
         self.coverage.note(&parsed, &before, &answer);
         self.lines.push(bytes);
         answer
+    }
+
+    /// Writes one good line, with a word behind it where it is an event that has one, and performs it.
+    pub fn event(&mut self, text: &str) -> Answer {
+        let line = with_word(&mut self.rng, text);
+        self.line(&line)
     }
 
     /// The same line with other blanks, digits and comments. (A `file` line only gets blanks around it.)

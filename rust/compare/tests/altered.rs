@@ -4,7 +4,7 @@
 use std::io;
 
 use compare::comparing::{compare, Difference, Failure, Options, FULL_RUN};
-use compare::coverage::Meeting;
+use compare::coverage::{event_word, Meeting};
 use compare::program::{model, Folder, InProcess, Outcome, Perform, Program, Script, Status};
 use second::access::Action;
 use second::address::GuestPhysical;
@@ -15,12 +15,13 @@ use second::interrupts::{self, Rule as LevelRule};
 use second::lines::LONGEST_LINE;
 use second::reasons::Reason;
 use second::registers::{
-    mpp, Wrong, HGEIE, HGEIP, HIP, HVIP, MIDELEG, MIE, MIP, MPV, MXR, ROWS, SIE, SIE_REGISTER, SIP,
-    SPVP, SUM, VSIE,
+    mpp, Wrong, HGEIE, HGEIP, HIP, HSTATUS_GVA, HVIP, MIDELEG, MIE, MIP, MPV, MSTATUS_GVA, MXR,
+    ROWS, SIE, SIE_REGISTER, SIP, SPVP, SUM, VSIE,
 };
-use second::script::{Answer, Bad, Instruction, Line, Session};
-use second::trap::{BadRequest, Control, Ending, Forbidden, Refusal, Target, INTERRUPT_BIT};
+use second::script::{Answer, Bad, Line, Session};
+use second::trap::{BadRequest, Control, Ending, Forbidden, Refusal, Target, Trap, INTERRUPT_BIT};
 use second::walk::{self, effective_mode, Access, BadAccess, Part, Rule, Why};
+use second::word::Explanation;
 
 /// Compares the model with an altered copy over at most this many events.
 fn find(perform: Perform, events: u64) -> Option<Difference> {
@@ -184,7 +185,7 @@ fn a_copy_that_trusts_mpv_when_mpp_is_3() {
     fn trusts_mpv(session: &mut Session, line: &Line) -> Result<Answer, Bad> {
         let before = session.hart;
         let answer = session.perform(line)?;
-        if let (Line::Instruction(Instruction::Mret), Answer::Event(outcome)) = (line, &answer) {
+        if let (Some("mret"), Answer::Event(outcome)) = (event_word(line), &answer) {
             let done = outcome.ending == Ending::Done;
             if done && mpp(before.mstatus) == 3 && bit(before.mstatus, MPV) {
                 session.hart.v = 1;
@@ -297,12 +298,12 @@ fn a_copy_that_takes_a_bad_line() {
 }
 
 /// A program that gives the model's outcome changed in a fixed way.
-struct Changed<'a> {
+struct Changed<'a, F> {
     folder: &'a Folder,
-    change: fn(Outcome) -> Outcome,
+    change: F,
 }
 
-impl Program for Changed<'_> {
+impl<F: Fn(Outcome) -> Outcome> Program for Changed<'_, F> {
     fn name(&self) -> String {
         "changed".to_string()
     }
@@ -321,11 +322,11 @@ impl Program for Changed<'_> {
     }
 }
 
-fn changed(change: fn(Outcome) -> Outcome) -> Difference {
+fn changed(change: impl Fn(Outcome) -> Outcome) -> Difference {
     found_in_changed(change).expect("caught")
 }
 
-fn found_in_changed(change: fn(Outcome) -> Outcome) -> Option<Difference> {
+fn found_in_changed(change: impl Fn(Outcome) -> Outcome) -> Option<Difference> {
     let folder = Folder::new().unwrap();
     let first = Changed {
         folder: &folder,
@@ -468,7 +469,8 @@ fn written_with(
 ) -> Result<Answer, Bad> {
     let v = session.hart.v;
     let answer = session.perform(line)?;
-    let (Line::Register { number, action }, Answer::Register(accessed)) = (line, &answer) else {
+    let (Line::Register { number, action, .. }, Answer::Register(accessed)) = (line, &answer)
+    else {
         return Ok(answer);
     };
     if (v, *number) == (0, register) && accessed.outcome.ending == Ending::Done {
@@ -758,10 +760,12 @@ const REGISTER_SLIPS: [(&str, Perform); 14] = [
         Line::Register {
             number: HGEIE,
             action,
-        } if action.writes() => {
-            let (number, action) = (HGEIP, *action);
-            session.perform(&Line::Register { number, action })
-        }
+            word,
+        } if action.writes() => session.perform(&Line::Register {
+            number: HGEIP,
+            action: *action,
+            word: *word,
+        }),
         _ => session.perform(line),
     }),
     (
@@ -814,6 +818,372 @@ fn copies_with_a_slip_in_the_registers_of_interrupts() {
     for (slip, perform) in REGISTER_SLIPS {
         println!("{slip}");
         caught(perform, 12);
+    }
+}
+
+// Copies with a slip in what change request 2026-02 asks for.
+
+/// The model with another word for this one line.
+fn with_other_word(
+    session: &mut Session,
+    line: &Line,
+    other: fn(u32) -> u32,
+) -> Result<Answer, Bad> {
+    let mut line = line.clone();
+    if let Line::Register { word, .. } | Line::Instruction { word, .. } = &mut line {
+        *word = other(*word);
+    }
+    session.perform(&line)
+}
+
+/// The model with another hart after a line whose event trapped into this target.
+fn trapped_with(
+    session: &mut Session,
+    line: &Line,
+    change: fn(&mut Hart, &Hart, &Trap, Target),
+) -> Result<Answer, Bad> {
+    let before = session.hart;
+    let answer = session.perform(line)?;
+    let ending = match &answer {
+        Answer::Register(accessed) => accessed.outcome.ending,
+        Answer::Event(outcome) => outcome.ending,
+        _ => return Ok(answer),
+    };
+    if let Ending::Trapped(trap, target) = ending {
+        change(&mut session.hart, &before, &trap, target);
+    }
+    Ok(answer)
+}
+
+/// The same for events that have a word, whose trap has it as its value.
+fn word_with(
+    session: &mut Session,
+    line: &Line,
+    change: fn(&mut Hart, &Hart, &Trap, Target),
+) -> Result<Answer, Bad> {
+    match line.word() {
+        Some(_) => trapped_with(session, line, change),
+        None => session.perform(line),
+    }
+}
+
+/// The tval of a target.
+fn tval(hart: &mut Hart, target: Target) -> &mut u64 {
+    match target {
+        Target::M => &mut hart.mtval,
+        Target::Hs => &mut hart.stval,
+        Target::Vs => &mut hart.vstval,
+    }
+}
+
+/// The model without the word of one event, by its place in [`EVENTS`].
+fn drops_word<const EVENT: usize>(session: &mut Session, line: &Line) -> Result<Answer, Bad> {
+    if event_word(line) == Some(EVENTS[EVENT]) {
+        with_other_word(session, line, |_| 0)
+    } else {
+        session.perform(line)
+    }
+}
+
+/// The events that have a word.
+const EVENTS: [&str; 10] = [
+    "read",
+    "write",
+    "set",
+    "clear",
+    "mret",
+    "sret",
+    "wfi",
+    "sfence.vma",
+    "hfence.vvma",
+    "hfence.gvma",
+];
+
+/// The slips in what is done with a word.
+const WORD_SLIPS: [(&str, Perform); 45] = [
+    ("none of a read", drops_word::<0>),
+    ("none of a write", drops_word::<1>),
+    ("none of a set", drops_word::<2>),
+    ("none of a clear", drops_word::<3>),
+    ("none of MRET", drops_word::<4>),
+    ("none of SRET", drops_word::<5>),
+    ("none of WFI", drops_word::<6>),
+    ("none of SFENCE.VMA", drops_word::<7>),
+    ("none of HFENCE.VVMA", drops_word::<8>),
+    ("none of HFENCE.GVMA", drops_word::<9>),
+    ("its low half", |session, line| {
+        with_other_word(session, line, |word| word & 0xffff)
+    }),
+    ("its high half", |session, line| {
+        with_other_word(session, line, |word| word & 0xffff_0000)
+    }),
+    ("without bit 31", |session, line| {
+        with_other_word(session, line, |word| word & 0x7fff_ffff)
+    }),
+    ("without its two lowest bits", |session, line| {
+        with_other_word(session, line, |word| word & !3)
+    }),
+    ("with its two lowest bits set", |session, line| {
+        with_other_word(session, line, |word| word | 3)
+    }),
+    ("its bytes in another order", |session, line| {
+        with_other_word(session, line, u32::swap_bytes)
+    }),
+    ("shifted left", |session, line| {
+        with_other_word(session, line, |word| word << 1)
+    }),
+    ("shifted right", |session, line| {
+        with_other_word(session, line, |word| word >> 2)
+    }),
+    ("of a SYSTEM instruction alone", |session, line| {
+        with_other_word(
+            session,
+            line,
+            |word| {
+                if word & 0x7f == 0x73 {
+                    word
+                } else {
+                    0
+                }
+            },
+        )
+    }),
+    (
+        "only where it fits",
+        |session, line| match Explanation::of(line) {
+            Some(word) if !word.fits => with_other_word(session, line, |_| 0),
+            _ => session.perform(line),
+        },
+    ),
+    ("sign-extended", |session, line| {
+        word_with(session, line, |hart, _, trap, target| {
+            *tval(hart, target) = trap.value as i32 as u64;
+        })
+    }),
+    ("in both halves of tval", |session, line| {
+        word_with(session, line, |hart, _, trap, target| {
+            *tval(hart, target) = (trap.value << 32) | trap.value;
+        })
+    }),
+    ("with the old high half of tval", |session, line| {
+        word_with(session, line, |hart, before, _, target| {
+            let old = *tval(&mut before.clone(), target);
+            *tval(hart, target) |= old & !0xffff_ffff;
+        })
+    }),
+    ("pc in its place", |session, line| {
+        word_with(session, line, |hart, before, _, target| {
+            *tval(hart, target) = before.pc;
+        })
+    }),
+    (
+        "the register's number in its place",
+        |session, line| match line {
+            Line::Register { number, action, .. } => session.perform(&Line::Register {
+                number: *number,
+                action: *action,
+                word: *number as u32,
+            }),
+            _ => session.perform(line),
+        },
+    ),
+    ("not into M", |session, line| {
+        word_with(session, line, |hart, _, _, target| {
+            if target == Target::M {
+                hart.mtval = 0;
+            }
+        })
+    }),
+    ("not into HS", |session, line| {
+        word_with(session, line, |hart, _, _, target| {
+            if target == Target::Hs {
+                hart.stval = 0;
+            }
+        })
+    }),
+    ("not into VS", |session, line| {
+        word_with(session, line, |hart, _, _, target| {
+            if target == Target::Vs {
+                hart.vstval = 0;
+            }
+        })
+    }),
+    ("not with cause 2", |session, line| {
+        word_with(session, line, |hart, _, trap, target| {
+            if trap.cause == 2 {
+                *tval(hart, target) = 0;
+            }
+        })
+    }),
+    ("not with cause 22", |session, line| {
+        word_with(session, line, |hart, _, trap, target| {
+            if trap.cause == 22 {
+                *tval(hart, target) = 0;
+            }
+        })
+    }),
+    ("not from HS", |session, line| {
+        word_with(session, line, |hart, before, _, target| {
+            if before.checked_mode() == Some(Mode::Hs) {
+                *tval(hart, target) = 0;
+            }
+        })
+    }),
+    ("not from M", |session, line| {
+        word_with(session, line, |hart, before, _, _| {
+            if before.checked_mode() == Some(Mode::M) {
+                hart.mtval = 0;
+            }
+        })
+    }),
+    ("in every tval", |session, line| {
+        word_with(session, line, |hart, _, trap, _| {
+            [hart.mtval, hart.stval, hart.vstval] = [trap.value; 3];
+        })
+    }),
+    ("in mtinst too", |session, line| {
+        word_with(session, line, |hart, _, trap, target| {
+            if target == Target::M {
+                hart.mtinst = trap.value;
+            }
+        })
+    }),
+    ("in htinst too", |session, line| {
+        word_with(session, line, |hart, _, trap, target| {
+            if target == Target::Hs {
+                hart.htinst = trap.value;
+            }
+        })
+    }),
+    ("in mtval2 too", |session, line| {
+        word_with(session, line, |hart, _, trap, target| {
+            if target == Target::M {
+                hart.mtval2 = trap.value;
+            }
+        })
+    }),
+    ("in htval too", |session, line| {
+        word_with(session, line, |hart, _, trap, target| {
+            if target == Target::Hs {
+                hart.htval = trap.value >> 2;
+            }
+        })
+    }),
+    ("with the flag set in M", |session, line| {
+        word_with(session, line, |hart, before, _, target| {
+            if target == Target::M && before.v == 1 {
+                hart.mstatus |= 1 << MSTATUS_GVA;
+            }
+        })
+    }),
+    ("with the flag set in HS", |session, line| {
+        word_with(session, line, |hart, before, _, target| {
+            if target == Target::Hs && before.v == 1 {
+                hart.hstatus |= 1 << HSTATUS_GVA;
+            }
+        })
+    }),
+    ("in mtval where it is done", |session, line| {
+        let pc = session.hart.pc;
+        let answer = session.perform(line);
+        if let (Some(word), true) = (line.word(), session.hart.pc == pc.wrapping_add(4)) {
+            session.hart.mtval = u64::from(word);
+        }
+        answer
+    }),
+    ("in mtval where it is refused", |session, line| {
+        if let (Some(word), None) = (line.word(), session.hart.checked_mode()) {
+            session.hart.mtval = u64::from(word);
+        }
+        session.perform(line)
+    }),
+    (
+        "an access that it does not fit is illegal",
+        |session, line| match (line, Explanation::of(line)) {
+            (Line::Register { action, word, .. }, Some(said)) if !said.fits => {
+                session.perform(&Line::Register {
+                    number: 0xfff,
+                    action: *action,
+                    word: *word,
+                })
+            }
+            _ => session.perform(line),
+        },
+    ),
+    ("ECALL's", |session, line| match line {
+        Line::Ecall => trapped_with(session, line, |hart, _, _, target| {
+            *tval(hart, target) = 0x73;
+        }),
+        _ => session.perform(line),
+    }),
+    ("EBREAK's", |session, line| match line {
+        Line::Ebreak => trapped_with(session, line, |hart, _, _, target| {
+            *tval(hart, target) = 0x10_0073;
+        }),
+        _ => session.perform(line),
+    }),
+    (
+        "0 for a trap that is asked for",
+        |session, line| match line {
+            Line::Trap(_) => trapped_with(session, line, |hart, _, trap, target| {
+                if matches!(trap.cause, 2 | 22) {
+                    *tval(hart, target) = 0;
+                }
+            }),
+            _ => session.perform(line),
+        },
+    ),
+];
+
+#[test]
+fn copies_with_a_slip_in_words() {
+    for (slip, perform) in WORD_SLIPS {
+        println!("{slip}");
+        caught(perform, 12);
+    }
+}
+
+/// Runs whose programs differ in nothing but what is said about words.
+fn differs_in_words(change: fn(&str) -> String) {
+    let difference = changed(|outcome| {
+        let text = String::from_utf8(outcome.output).unwrap();
+        let lines = text.split_inclusive('\n');
+        let changed = lines.map(|line| match line.strip_prefix("# word: ") {
+            Some(said) => format!("# word: {}", change(said)),
+            None => line.to_string(),
+        });
+        Outcome {
+            output: changed.collect::<String>().into_bytes(),
+            status: outcome.status,
+        }
+    });
+    assert!(difference.script.explained);
+    assert!(difference.script.lines.len() <= 2, "{difference}");
+}
+
+#[test]
+fn what_is_said_about_words_is_compared() {
+    for change in [
+        (|said| said.replace(" is ", " does not fit: it is ")) as fn(&str) -> String,
+        |said| said.replace("does not fit: it is", "is"),
+        |said| said.replace("mstatus (300)", "sstatus (300)"),
+        |said| said.replace("register ", "the register "),
+        |said| said.replace("VMID", "ASID"),
+        |said| said.replace("all ASIDs", "the ASID in x0"),
+        |said| said.replace("x10", "xa"),
+        |said| said.replace("CSRRCI", "CSRRC"),
+        |said| said.replace("set in", "cleared in"),
+        |said| said.replace("ECALL", "EBREAK"),
+        |said| said.replace("no SYSTEM", "another"),
+        |said| {
+            said.replace(
+                "a SYSTEM instruction that the model has no event for",
+                "no SYSTEM instruction",
+            )
+        },
+        |said| format!("0{said}"),
+    ] {
+        differs_in_words(change);
     }
 }
 
@@ -1136,7 +1506,7 @@ fn a_copy_with_a_reason_where_none_is_needed() {
     fn talkative(session: &mut Session, line: &Line) -> Result<Answer, Bad> {
         let mut answer = session.perform(line)?;
         if let Answer::Event(outcome) = &mut answer {
-            if *line == Line::Instruction(Instruction::Ecall) && outcome.reason.is_none() {
+            if *line == Line::Ecall && outcome.reason.is_none() {
                 outcome.reason = Some(Reason::Forbidden(Forbidden::Bit(Control::Tw)));
             }
         }
@@ -1156,6 +1526,21 @@ fn with_lines(outcome: Outcome, change: fn(Vec<Vec<u8>>) -> Vec<Vec<u8>>) -> Out
 
 fn is_reason(line: &[u8]) -> bool {
     line.starts_with(b"# why: ")
+}
+
+#[test]
+fn a_word_behind_its_reason() {
+    let difference = changed(|outcome| {
+        with_lines(outcome, |mut lines| {
+            for place in 1..lines.len() {
+                if is_reason(&lines[place]) && lines[place - 1].starts_with(b"# word: ") {
+                    lines.swap(place - 1, place);
+                }
+            }
+            lines
+        })
+    });
+    differs_in_reasons(&difference);
 }
 
 #[test]
@@ -1299,6 +1684,18 @@ fn a_run_reaches_everything() {
             "1 flipped bits in Vs by Event",
             "interrupt 9 to M with interrupt 2 to VS due",
             "bits 20 of 144 in Vs: 1 written and not handed down",
+        ]
+    );
+    let words = &mut coverage.instruction_words;
+    words.shown.get_mut(&("mret", 2, Target::Vs)).unwrap()[0] ^= 1 << 31;
+    assert!(words.done.remove("hfence.gvma").is_some());
+    assert!(words.cases.remove(&("wfi", "MRET", None)).is_some());
+    assert_eq!(
+        coverage.missing()[3..],
+        [
+            "bits 80000000 of a word as 1 in VS's tval, by mret with cause 2",
+            "hfence.gvma done, with a word",
+            "an event and its word: wfi and MRET",
         ]
     );
     assert!(coverage.events >= 60_000);

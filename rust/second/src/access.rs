@@ -1,4 +1,4 @@
-//! "Access": read, write, set and clear of a register.
+//! "Access": read, write, set and clear of a register. Each has its instruction word, for where it traps.
 
 use crate::bits::bit;
 use crate::hart::{Hart, Mode};
@@ -65,7 +65,7 @@ pub struct Accessed {
 }
 
 /// An access to a register. Refused as 2 by the hart, as 5 by a number over 4095.
-pub fn access(hart: &Hart, number: u64, action: Action) -> Accessed {
+pub fn access(hart: &Hart, number: u64, action: Action, word: u32) -> Accessed {
     let mode = match hart.check() {
         Ok(mode) => mode,
         Err(bad) => return without_value(refused_hart(hart, bad)),
@@ -75,7 +75,7 @@ pub fn access(hart: &Hart, number: u64, action: Action) -> Accessed {
     }
     match reached(hart, mode, number, action.writes()) {
         Ok(row) => done(hart, row, action),
-        Err(raised) => without_value(forbidden(hart, mode, raised)),
+        Err(raised) => without_value(forbidden(hart, mode, raised, word)),
     }
 }
 
@@ -223,6 +223,14 @@ mod tests {
         },
     ];
 
+    /// Any word: the highest bit, the lowest, and some between.
+    const WORD: u32 = 0x8c30_5a73;
+
+    /// The access with that word.
+    fn access(hart: &Hart, number: u64, action: Action) -> Accessed {
+        super::access(hart, number, action, WORD)
+    }
+
     fn hart(mode: Mode) -> Hart {
         Hart::new(0, 0, 0x40).in_mode(mode)
     }
@@ -231,7 +239,13 @@ mod tests {
     fn cause(accessed: &Accessed) -> Option<u64> {
         match accessed.outcome.ending {
             Ending::Trapped(trap, _) => {
-                assert_eq!(trap, Trap::plain(trap.cause));
+                let value = u64::from(WORD);
+                let expected = Trap {
+                    value,
+                    ..Trap::plain(trap.cause)
+                };
+                assert_eq!(trap, expected);
+                assert_eq!(accessed.outcome.hart.mtval, value);
                 assert_eq!(accessed.old, 0);
                 Some(trap.cause)
             }

@@ -491,7 +491,7 @@ fn a_taken_interrupt_stays_pending() {
     assert_eq!(outcome.hart.mip, 0x80);
     let waiting = interrupt(&outcome.hart);
     assert_eq!((taken(&waiting), waiting.hart), (None, outcome.hart));
-    let back = crate::returns::mret(&outcome.hart).hart;
+    let back = crate::returns::mret(&outcome.hart, 0).hart;
     assert_eq!((back.pc, back.checked_mode()), (0x1000, Some(Mode::Vs)));
     assert_eq!(taken(&interrupt(&back)), Some((7, Target::M)));
 }

@@ -1,5 +1,5 @@
-//! The independent second program: the model of document 01 with change request 2026-01 written a second time, from the papers
-//! alone, so that the two programs can be compared byte by byte.
+//! The independent second program: the model of document 01 with change requests 2026-01 and 2026-02 written a second time, from
+//! the papers alone, so that the two programs can be compared byte by byte.
 //!
 //! One module for each subject, in the paper's order:
 //!
@@ -9,7 +9,7 @@
 //! | [`address`] | "Guest physical and machine addresses are kept as two kinds of number" |
 //! | [`registers`] | "Twenty-nine registers" and the request's twelve: the table, the stored bits, the views, the write rules |
 //! | [`hart`] | the five modes, the hart, refusal 2 |
-//! | [`trap`] | refusal 4 and "Delivery" |
+//! | [`trap`] | refusal 4, "Delivery", and request 2026-02: the word of an instruction that traps |
 //! | [`calls`] | environment calls and the breakpoint |
 //! | [`returns`] | MRET and SRET |
 //! | [`interrupts`] | request 2026-01: which interrupt is due, and taking it |
@@ -18,6 +18,7 @@
 //! | [`image`] | the image and refusal 1 |
 //! | [`walk`] | "The walk": translation of a fetch, load or store, refusal 3 |
 //! | [`reasons`] | what each rule that refused, trapped, faulted or took an interrupt is called in words |
+//! | [`word`] | which instruction an event's word is, in words, and whether it fits the event |
 //! | [`lines`] | the lines of a script, and the longest one |
 //! | [`script`] | the replay script language |
 //!
@@ -43,3 +44,4 @@ pub mod script;
 pub mod trap;
 pub mod waits;
 pub mod walk;
+pub mod word;

@@ -1,5 +1,5 @@
 //! `second [--why] [FILE]`: runs a replay script from a file, or from standard input where no file is named. With `--why` it
-//! also writes the reason of each answer that has one.
+//! also writes what the word of each event is, and the reason of each answer that has one.
 //!
 //! Exit status: 0 after a whole script, 1 after a bad line, 2 where the script can't be read or the answers can't be written.
 

@@ -2,18 +2,20 @@
 
 use std::path::PathBuf;
 
-use crate::script::{run, run_line, Answer, Session, Writing};
+use crate::script::{parse, run, Answer, Bad, Session, Writing};
 
 /// The reason of the last line of a script, whose lines are separated by `;`.
 fn why(script: &str) -> String {
     let mut session = Session::new(PathBuf::new());
     let mut last = Answer::Nothing;
     for line in script.split(';') {
-        last = run_line(Session::perform, &mut session, line.as_bytes())
-            .unwrap_or_else(|bad| panic!("{line:?} of {script:?}: {}", bad.0));
+        let told = |Bad(why)| format!("{line:?} of {script:?}: {why}");
+        if let Some(parsed) = parse(line.as_bytes()).map_err(told).unwrap() {
+            last = session.perform(&parsed).map_err(told).unwrap();
+        }
     }
-    last.reason()
-        .map_or("none".to_string(), |reason| reason.to_string())
+    let reason = last.reason();
+    reason.map_or("none".to_string(), |reason| reason.to_string())
 }
 
 fn check(cases: &[(&str, &str)]) {
@@ -26,11 +28,11 @@ fn check(cases: &[(&str, &str)]) {
 fn a_hart_is_refused() {
     check(&[
         (
-            "hart 1 3 0;wfi",
+            "hart 1 3 0;wfi 0",
             "V 1 and privilege 3 are none of the five modes",
         ),
         (
-            "hart ffffffffffffffff 12 1;wfi",
+            "hart ffffffffffffffff 12 1;wfi 0",
             "V ffffffffffffffff and privilege 12 are none of the five modes",
         ),
         ("hart 0 1 6;ecall", "pc 6 is not a multiple of 4"),
@@ -39,15 +41,15 @@ fn a_hart_is_refused() {
             "mstatus (300): MPRV is 1; outside M it may hold 0",
         ),
         (
-            "reg 300 a00001000;read 300",
+            "reg 300 a00001000;read 300 0",
             "mstatus (300): MPP is 2; it may hold 0, 1 or 3",
         ),
         (
-            "reg 300 900000000;mret",
+            "reg 300 900000000;mret 0",
             "mstatus (300): UXL is 1; it may hold 2",
         ),
         (
-            "reg 300 e00000000;sret",
+            "reg 300 e00000000;sret 0",
             "mstatus (300): SXL is 3; it may hold 2",
         ),
         (
@@ -59,23 +61,23 @@ fn a_hart_is_refused() {
             "hstatus (600): VSXL is 0; it may hold 2",
         ),
         (
-            "reg 180 ffffffffffffffff;sfence.vma",
+            "reg 180 ffffffffffffffff;sfence.vma 0",
             "satp (180): MODE is f; it may hold 0 or 8",
         ),
         (
-            "reg 280 9000000000000000;hfence.vvma",
+            "reg 280 9000000000000000;hfence.vvma 0",
             "vsatp (280): MODE is 9; it may hold 0 or 8",
         ),
         (
-            "reg 680 1000000000000000;hfence.gvma",
+            "reg 680 1000000000000000;hfence.gvma 0",
             "hgatp (680): MODE is 1; it may hold 0 or 8",
         ),
         (
-            "reg 34a 1;reg 305 7;wfi",
+            "reg 34a 1;reg 305 7;wfi 0",
             "mtvec (305): bit 1 is 1; it may hold 0",
         ),
         (
-            "reg 602 8000000000000200;reg 680 3;write 0 0",
+            "reg 602 8000000000000200;reg 680 3;write 0 0 0",
             "hedeleg (602): bit 9 is 1; it may hold 0",
         ),
         (
@@ -83,23 +85,23 @@ fn a_hart_is_refused() {
             "mideleg (303): bit 2 is 0; it may hold 1",
         ),
         (
-            "reg 303 404;wfi",
+            "reg 303 404;wfi 0",
             "mideleg (303): bit 6 is 0; it may hold 1",
         ),
         (
-            "reg 303 3ff;wfi",
+            "reg 303 3ff;wfi 0",
             "mideleg (303): bit 0 is 1; it may hold 0",
         ),
         (
-            "reg 303 266;wfi",
+            "reg 303 266;wfi 0",
             "mideleg (303): bit 10 is 0; it may hold 1",
         ),
         (
-            "reg 303 1444;reg 304 1;wfi",
+            "reg 303 1444;reg 304 1;wfi 0",
             "mideleg (303): bit 12 is 1; it may hold 0",
         ),
         (
-            "reg 304 1eee;reg 344 1;wfi",
+            "reg 304 1eee;reg 344 1;wfi 0",
             "mie (304): bit 12 is 1; it may hold 0",
         ),
         (
@@ -107,7 +109,7 @@ fn a_hart_is_refused() {
             "mip (344): bit 63 is 1; it may hold 0",
         ),
         (
-            "reg 603 2;reg 643 1;read 0",
+            "reg 603 2;reg 643 1;read 0 0",
             "hideleg (603): bit 1 is 1; it may hold 0",
         ),
     ]);
@@ -259,7 +261,7 @@ fn the_hart_comes_before_the_image_and_the_image_before_the_access() {
             "image 100000000000000 1000;fetch 0 3",
             "the image ends at 100000000001000; it may end at most at 100000000000000",
         ),
-        ("hart 0 3 2;read 1000", "pc 2 is not a multiple of 4"),
+        ("hart 0 3 2;read 1000 0", "pc 2 is not a multiple of 4"),
         ("hart 0 3 2;trap e 0 0 0 0", "pc 2 is not a multiple of 4"),
     ]);
 }
@@ -303,30 +305,45 @@ fn a_trap_request_is_refused() {
 #[test]
 fn an_access_to_a_register_is_refused_or_traps() {
     check(&[
-        ("read 1000", "register number 1000 is over fff"),
-        ("read fff", "the model has no register fff"),
-        ("hart 1 0 0;write e12 0", "hgeip (e12) is read-only"),
-        ("hart 1 0 0;read e12", "hgeip (e12) is out of reach in VU"),
-        ("hart 0 0 0;read 100", "sstatus (100) is out of reach in U"),
+        ("read 1000 0", "register number 1000 is over fff"),
+        ("read fff 0", "the model has no register fff"),
+        ("hart 1 0 0;write e12 0 0", "hgeip (e12) is read-only"),
+        ("hart 1 0 0;read e12 0", "hgeip (e12) is out of reach in VU"),
         (
-            "hart 0 1 0;set 34b 0 0",
+            "hart 0 0 0;read 100 0",
+            "sstatus (100) is out of reach in U",
+        ),
+        (
+            "hart 0 1 0;set 34b 0 0 0",
             "mtval2 (34b) is out of reach in HS",
         ),
         (
-            "hart 1 1 0;clear 280 0 1",
+            "hart 1 1 0;clear 280 0 1 0",
             "vsatp (280) is out of reach in VS",
         ),
-        ("hart 0 1 0;reg 300 a00100000;read 180", "mstatus.TVM is 1"),
-        ("hart 0 1 0;reg 300 a00100000;read 680", "mstatus.TVM is 1"),
-        ("hart 1 1 0;reg 600 200100000;read 180", "hstatus.VTVM is 1"),
-        ("read 300", "none"),
-        ("hart 1 1 0;read 604", "hie (604) is out of reach in VS"),
-        ("hart 1 1 0;read 204", "vsie (204) is out of reach in VS"),
-        ("hart 1 0 0;write 104 0", "sie (104) is out of reach in VU"),
-        ("hart 0 1 0;read 344", "mip (344) is out of reach in HS"),
-        ("hart 0 0 0;read 607", "hgeie (607) is out of reach in U"),
-        ("hart 1 1 0;write 144 0", "none"),
-        ("write 607 1", "none"),
+        (
+            "hart 0 1 0;reg 300 a00100000;read 180 0",
+            "mstatus.TVM is 1",
+        ),
+        (
+            "hart 0 1 0;reg 300 a00100000;read 680 0",
+            "mstatus.TVM is 1",
+        ),
+        (
+            "hart 1 1 0;reg 600 200100000;read 180 0",
+            "hstatus.VTVM is 1",
+        ),
+        ("read 300 0", "none"),
+        ("hart 1 1 0;read 604 0", "hie (604) is out of reach in VS"),
+        ("hart 1 1 0;read 204 0", "vsie (204) is out of reach in VS"),
+        (
+            "hart 1 0 0;write 104 0 0",
+            "sie (104) is out of reach in VU",
+        ),
+        ("hart 0 1 0;read 344 0", "mip (344) is out of reach in HS"),
+        ("hart 0 0 0;read 607 0", "hgeie (607) is out of reach in U"),
+        ("hart 1 1 0;write 144 0 0", "none"),
+        ("write 607 1 0", "none"),
     ]);
 }
 
@@ -334,20 +351,20 @@ fn an_access_to_a_register_is_refused_or_traps() {
 fn an_instruction_traps() {
     let every_bit = "reg 300 a00700000;reg 600 200700000";
     for (mode, instruction, expected) in [
-        ("0 1", "mret", "MRET is out of reach in HS"),
-        ("0 0", "sret", "SRET is out of reach in U"),
-        ("1 0", "sret", "SRET is out of reach in VU"),
-        ("0 1", "sret", "mstatus.TSR is 1"),
-        ("1 1", "sret", "hstatus.VTSR is 1"),
-        ("0 0", "wfi", "mstatus.TW is 1"),
-        ("0 0", "sfence.vma", "SFENCE.VMA is out of reach in U"),
-        ("0 1", "sfence.vma", "mstatus.TVM is 1"),
-        ("1 1", "sfence.vma", "hstatus.VTVM is 1"),
-        ("1 1", "hfence.vvma", "HFENCE.VVMA is out of reach in VS"),
-        ("1 0", "hfence.gvma", "HFENCE.GVMA is out of reach in VU"),
-        ("0 1", "hfence.gvma", "mstatus.TVM is 1"),
-        ("0 1", "hfence.vvma", "none"),
-        ("0 3", "wfi", "none"),
+        ("0 1", "mret 0", "MRET is out of reach in HS"),
+        ("0 0", "sret 0", "SRET is out of reach in U"),
+        ("1 0", "sret 0", "SRET is out of reach in VU"),
+        ("0 1", "sret 0", "mstatus.TSR is 1"),
+        ("1 1", "sret 0", "hstatus.VTSR is 1"),
+        ("0 0", "wfi 0", "mstatus.TW is 1"),
+        ("0 0", "sfence.vma 0", "SFENCE.VMA is out of reach in U"),
+        ("0 1", "sfence.vma 0", "mstatus.TVM is 1"),
+        ("1 1", "sfence.vma 0", "hstatus.VTVM is 1"),
+        ("1 1", "hfence.vvma 0", "HFENCE.VVMA is out of reach in VS"),
+        ("1 0", "hfence.gvma 0", "HFENCE.GVMA is out of reach in VU"),
+        ("0 1", "hfence.gvma 0", "mstatus.TVM is 1"),
+        ("0 1", "hfence.vvma 0", "none"),
+        ("0 3", "wfi 0", "none"),
         ("1 1", "ecall", "none"),
         ("1 1", "ebreak", "none"),
         ("1 1", "trap 2 0 0 0 0", "none"),
@@ -358,8 +375,8 @@ fn an_instruction_traps() {
         );
     }
     check(&[
-        ("hart 1 0 0;wfi", "WFI is out of reach in VU"),
-        ("hart 1 1 0;reg 600 200200000;wfi", "hstatus.VTW is 1"),
+        ("hart 1 0 0;wfi 0", "WFI is out of reach in VU"),
+        ("hart 1 1 0;reg 600 200200000;wfi 0", "hstatus.VTW is 1"),
     ]);
 }
 
@@ -547,8 +564,8 @@ fn the_second_stage_faults() {
 }
 
 #[test]
-fn a_reason_stands_behind_its_answer_and_its_reads() {
-    let script = b"image 80000000 1000\nhart 0 1 0\nreg 180 8000000000080000\nload 0 8\nread 300\nwfi\nread 1000\nnonsense\n";
+fn a_word_and_a_reason_stand_behind_their_answer_and_its_reads() {
+    let script = b"image 80000000 1000\nhart 0 1 0\nreg 180 8000000000080000\nload 0 8\nread 300 30002573\nwfi 73\nread 1000 0\necall\nnonsense\n";
     let written = |writing| {
         let mut output = Vec::new();
         let mut session = Session::new(PathBuf::new());
@@ -557,12 +574,14 @@ fn a_reason_stands_behind_its_answer_and_its_reads() {
     };
     assert_eq!(
         written(Writing::Answers),
-        "fault d 0 0 0 0\nread 1 2 80000000 0\nvalue 0\nok\nrefused 5\nerror 8\n"
+        "fault d 0 0 0 0\nread 1 2 80000000 0\nvalue 0\nok\nrefused 5\nok\nerror 9\n"
     );
     assert_eq!(
         written(Writing::Reasons),
         "fault d 0 0 0 0\nread 1 2 80000000 0\n# why: first stage (satp), level 2: V is 0\n\
-         value 0\n# why: mstatus (300) is out of reach in HS\nok\n\
-         refused 5\n# why: register number 1000 is over fff\nerror 8\n"
+         value 0\n# word: 30002573 is CSRRS: mstatus (300) read to x10\n# why: mstatus (300) is out of reach in HS\n\
+         ok\n# word: 73 does not fit: it is ECALL\n\
+         refused 5\n# word: 0 does not fit: it is no SYSTEM instruction\n# why: register number 1000 is over fff\n\
+         ok\nerror 9\n"
     );
 }

@@ -1,4 +1,4 @@
-//! Returns: MRET and SRET.
+//! Returns: MRET and SRET. Each has its instruction word, for where it traps.
 
 use crate::bits::{bit, with_bit};
 use crate::hart::{Hart, Mode};
@@ -9,14 +9,14 @@ use crate::trap::{
 };
 
 /// MRET: "M only, else 2".
-pub fn mret(hart: &Hart) -> Outcome {
+pub fn mret(hart: &Hart, word: u32) -> Outcome {
     let mode = match hart.check() {
         Ok(mode) => mode,
         Err(bad) => return refused_hart(hart, bad),
     };
     if mode != Mode::M {
         let raised = illegal(Forbidden::Instruction("MRET", mode));
-        return forbidden(hart, mode, raised);
+        return forbidden(hart, mode, raised, word);
     }
     done(return_from_m(hart))
 }
@@ -37,13 +37,13 @@ fn return_from_m(hart: &Hart) -> Hart {
 }
 
 /// SRET.
-pub fn sret(hart: &Hart) -> Outcome {
+pub fn sret(hart: &Hart, word: u32) -> Outcome {
     let mode = match hart.check() {
         Ok(mode) => mode,
         Err(bad) => return refused_hart(hart, bad),
     };
     match sret_trap(hart, mode) {
-        Some(raised) => forbidden(hart, mode, raised),
+        Some(raised) => forbidden(hart, mode, raised, word),
         None if mode.v() => done(return_within_guest(hart)),
         None => done(return_from_hs(hart)),
     }
@@ -95,10 +95,28 @@ mod tests {
     use crate::reasons::Reason;
     use crate::trap::{Ending, Trap};
 
+    const WORD: u32 = 0x9020_00f3;
+
+    /// MRET with that word.
+    fn mret(hart: &Hart) -> Outcome {
+        super::mret(hart, WORD)
+    }
+
+    /// SRET with that word.
+    fn sret(hart: &Hart) -> Outcome {
+        super::sret(hart, WORD)
+    }
+
     fn cause(outcome: Outcome) -> Option<u64> {
         match outcome.ending {
             Ending::Trapped(trap, _) => {
-                assert_eq!(trap, Trap::plain(trap.cause));
+                let value = u64::from(WORD);
+                let expected = Trap {
+                    value,
+                    ..Trap::plain(trap.cause)
+                };
+                assert_eq!(trap, expected);
+                assert_eq!(outcome.hart.mtval, value);
                 Some(trap.cause)
             }
             Ending::Done => None,

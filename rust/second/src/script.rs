@@ -20,17 +20,14 @@ use crate::returns::{mret, sret};
 use crate::trap::{request, Ending, Outcome, Trap};
 use crate::waits::{hfence_gvma, hfence_vvma, sfence_vma, wfi};
 use crate::walk::{self, translate, Access, Kind, Translation};
+use crate::word::Explanation;
 
 /// The largest image that this program holds: 1 GiB.
 pub const IMAGE_LIMIT: u64 = 0x4000_0000;
 
-/// An instruction without operands.
+/// A return, WFI or a fence.
 #[derive(Clone, Copy, PartialEq, Eq, Debug)]
 pub enum Instruction {
-    /// `ecall`
-    Ecall,
-    /// `ebreak`
-    Ebreak,
     /// `mret`
     Mret,
     /// `sret`
@@ -93,15 +90,36 @@ pub enum Line {
         number: u64,
         /// What is done to it.
         action: Action,
+        /// The instruction's word.
+        word: u32,
     },
     /// `trap`
     Trap(Trap),
-    /// An instruction without operands.
-    Instruction(Instruction),
+    /// `ecall`
+    Ecall,
+    /// `ebreak`
+    Ebreak,
+    /// A return, WFI or a fence.
+    Instruction {
+        /// Which one.
+        instruction: Instruction,
+        /// Its word.
+        word: u32,
+    },
     /// `interrupt`
     Interrupt,
     /// `show`
     Show,
+}
+
+impl Line {
+    /// "Each such event gains the word": that of a register access, a return, WFI or a fence.
+    pub fn word(&self) -> Option<u32> {
+        match self {
+            Line::Register { word, .. } | Line::Instruction { word, .. } => Some(*word),
+            _ => None,
+        }
+    }
 }
 
 /// What a line answers.
@@ -224,6 +242,12 @@ fn flag(number: u64, name: &str) -> Result<bool, Bad> {
     }
 }
 
+/// WORD: "below 2^32, else the line is bad".
+fn instruction_word(number: u64) -> Result<u32, Bad> {
+    let over = |_| Bad(format!("WORD is {number:x}, over {:x}", u32::MAX));
+    u32::try_from(number).map_err(over)
+}
+
 /// Reads one line (without its newline). None for a line with nothing but blanks and a comment.
 pub fn parse(line: &[u8]) -> Result<Option<Line>, Bad> {
     let (word, rest) = next_word(line);
@@ -252,44 +276,34 @@ pub fn parse(line: &[u8]) -> Result<Option<Line>, Bad> {
         b"load" => parse_access(Kind::Load, rest)?,
         b"store" => parse_access(Kind::Store, rest)?,
         b"read" => {
-            let [number] = numbers(rest)?;
-            let action = Action::Read;
-            Line::Register { number, action }
+            let [number, word] = numbers(rest)?;
+            register_line(number, Action::Read, word)?
         }
         b"write" => {
-            let [number, value] = numbers(rest)?;
-            let action = Action::Write(value);
-            Line::Register { number, action }
+            let [number, value, word] = numbers(rest)?;
+            register_line(number, Action::Write(value), word)?
         }
         b"set" => {
-            let [number, value, writes] = numbers(rest)?;
+            let [number, value, writes, word] = numbers(rest)?;
             let writes = flag(writes, "WRITES")?;
-            let action = Action::Set { value, writes };
-            Line::Register { number, action }
+            register_line(number, Action::Set { value, writes }, word)?
         }
         b"clear" => {
-            let [number, value, writes] = numbers(rest)?;
+            let [number, value, writes, word] = numbers(rest)?;
             let writes = flag(writes, "WRITES")?;
-            let action = Action::Clear { value, writes };
-            Line::Register { number, action }
+            register_line(number, Action::Clear { value, writes }, word)?
         }
         b"trap" => parse_trap(rest)?,
-        b"ecall" => parse_instruction(Instruction::Ecall, rest)?,
-        b"ebreak" => parse_instruction(Instruction::Ebreak, rest)?,
+        b"ecall" => alone(Line::Ecall, rest)?,
+        b"ebreak" => alone(Line::Ebreak, rest)?,
         b"mret" => parse_instruction(Instruction::Mret, rest)?,
         b"sret" => parse_instruction(Instruction::Sret, rest)?,
         b"wfi" => parse_instruction(Instruction::Wfi, rest)?,
         b"sfence.vma" => parse_instruction(Instruction::SfenceVma, rest)?,
         b"hfence.vvma" => parse_instruction(Instruction::HfenceVvma, rest)?,
         b"hfence.gvma" => parse_instruction(Instruction::HfenceGvma, rest)?,
-        b"interrupt" => {
-            let [] = numbers(rest)?;
-            Line::Interrupt
-        }
-        b"show" => {
-            let [] = numbers(rest)?;
-            Line::Show
-        }
+        b"interrupt" => alone(Line::Interrupt, rest)?,
+        b"show" => alone(Line::Show, rest)?,
         _ => return Err(Bad(format!("the word {} is unknown", shown(word)))),
     };
     Ok(Some(parsed))
@@ -318,10 +332,27 @@ fn parse_trap(rest: &[u8]) -> Result<Line, Bad> {
     }))
 }
 
-/// The rest of a line with an instruction: nothing.
+/// The line of a register access with this WORD.
+fn register_line(number: u64, action: Action, word: u64) -> Result<Line, Bad> {
+    let word = instruction_word(word)?;
+    Ok(Line::Register {
+        number,
+        action,
+        word,
+    })
+}
+
+/// The rest of a line with a return, WFI or a fence.
 fn parse_instruction(instruction: Instruction, rest: &[u8]) -> Result<Line, Bad> {
+    let [word] = numbers(rest)?;
+    let word = instruction_word(word)?;
+    Ok(Line::Instruction { instruction, word })
+}
+
+/// A line that is its word alone.
+fn alone(line: Line, rest: &[u8]) -> Result<Line, Bad> {
     let [] = numbers(rest)?;
-    Ok(Line::Instruction(instruction))
+    Ok(line)
 }
 
 /// The rest of a `file` line: BASE, a blank, and PATH, which is all the rest of the line without the blanks around it. A `#`
@@ -386,14 +417,20 @@ impl Session {
                 let translation = translate(&self.hart, &self.image, access);
                 Ok(Answer::Translation(Box::new(translation)))
             }
-            Line::Register { number, action } => {
-                let accessed = access(&self.hart, *number, *action);
+            Line::Register {
+                number,
+                action,
+                word,
+            } => {
+                let accessed = access(&self.hart, *number, *action, *word);
                 self.hart = accessed.outcome.hart;
                 Ok(Answer::Register(accessed))
             }
             Line::Trap(trap) => Ok(self.hand_on(request(&self.hart, trap))),
-            Line::Instruction(instruction) => {
-                let outcome = perform_instruction(&self.hart, *instruction);
+            Line::Ecall => Ok(self.hand_on(ecall(&self.hart))),
+            Line::Ebreak => Ok(self.hand_on(ebreak(&self.hart))),
+            Line::Instruction { instruction, word } => {
+                let outcome = perform_instruction(&self.hart, *instruction, *word);
                 Ok(self.hand_on(outcome))
             }
             Line::Interrupt => Ok(self.hand_on(interrupt(&self.hart))),
@@ -449,18 +486,17 @@ impl Session {
     }
 }
 
-/// The events of instructions without operands.
-fn perform_instruction(hart: &Hart, instruction: Instruction) -> Outcome {
-    match instruction {
-        Instruction::Ecall => ecall(hart),
-        Instruction::Ebreak => ebreak(hart),
-        Instruction::Mret => mret(hart),
-        Instruction::Sret => sret(hart),
-        Instruction::Wfi => wfi(hart),
-        Instruction::SfenceVma => sfence_vma(hart),
-        Instruction::HfenceVvma => hfence_vvma(hart),
-        Instruction::HfenceGvma => hfence_gvma(hart),
-    }
+/// The events of returns, WFI and the fences.
+fn perform_instruction(hart: &Hart, instruction: Instruction, word: u32) -> Outcome {
+    let event = match instruction {
+        Instruction::Mret => mret,
+        Instruction::Sret => sret,
+        Instruction::Wfi => wfi,
+        Instruction::SfenceVma => sfence_vma,
+        Instruction::HfenceVvma => hfence_vvma,
+        Instruction::HfenceGvma => hfence_gvma,
+    };
+    event(hart, word)
 }
 
 /// `image`: zero bytes.
@@ -510,12 +546,15 @@ fn write_answer<W: Write>(output: &mut W, answer: &Answer) -> io::Result<()> {
     }
 }
 
-/// Writes the reason of an answer that has one.
-fn write_reason<W: Write>(output: &mut W, answer: &Answer) -> io::Result<()> {
-    match answer.reason() {
-        Some(reason) => writeln!(output, "# why: {reason}"),
-        None => Ok(()),
+/// Writes what the word of an event is, and the reason of an answer that has one.
+fn write_reasons<W: Write>(output: &mut W, line: &Line, answer: &Answer) -> io::Result<()> {
+    if let Some(word) = Explanation::of(line) {
+        writeln!(output, "# word: {word}")?;
     }
+    if let Some(reason) = answer.reason() {
+        writeln!(output, "# why: {reason}")?;
+    }
+    Ok(())
 }
 
 /// The answer of a translation and its list.
@@ -588,17 +627,17 @@ pub enum Trouble {
 pub enum Writing {
     /// The answers.
     Answers,
-    /// The answers, each with its reason where it has one.
+    /// The answers, each with what its word is and with its reason, where it has them.
     Reasons,
 }
 
 impl Writing {
-    /// Writes what there is to write about one answer.
-    pub fn write<W: Write>(self, output: &mut W, answer: &Answer) -> io::Result<()> {
+    /// Writes what there is to write about one line and its answer.
+    pub fn write<W: Write>(self, output: &mut W, line: &Line, answer: &Answer) -> io::Result<()> {
         write_answer(output, answer)?;
         match self {
             Writing::Answers => Ok(()),
-            Writing::Reasons => write_reason(output, answer),
+            Writing::Reasons => write_reasons(output, line, answer),
         }
     }
 }
@@ -633,8 +672,8 @@ pub fn run_by<R: Read, W: Write>(
             return Ok(End::Whole);
         };
         number = number.wrapping_add(1);
-        match line.and_then(|line| run_line(perform, session, line)) {
-            Ok(answer) => writing.write(output, &answer).map_err(Trouble::Output)?,
+        match line.and_then(|line| run_line(perform, session, writing, line, output)) {
+            Ok(written) => written.map_err(Trouble::Output)?,
             Err(Bad(reason)) => {
                 writeln!(output, "error {number:x}").map_err(Trouble::Output)?;
                 output.flush().map_err(Trouble::Output)?;
@@ -647,12 +686,19 @@ pub fn run_by<R: Read, W: Write>(
     }
 }
 
-/// Reads and performs one line.
-pub fn run_line(perform: Perform, session: &mut Session, line: &[u8]) -> Result<Answer, Bad> {
-    match parse(line)? {
-        Some(line) => perform(session, &line),
-        None => Ok(Answer::Nothing),
-    }
+/// Reads and performs one line, and writes what there is to write about it.
+fn run_line<W: Write>(
+    perform: Perform,
+    session: &mut Session,
+    writing: Writing,
+    line: &[u8],
+    output: &mut W,
+) -> Result<io::Result<()>, Bad> {
+    let Some(line) = parse(line)? else {
+        return Ok(Ok(()));
+    };
+    let answer = perform(session, &line)?;
+    Ok(writing.write(output, &line, &answer))
 }
 
 #[cfg(test)]

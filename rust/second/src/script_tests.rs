@@ -71,8 +71,8 @@ fn numbers_pass_as_they_are() {
         good("load ffffffffffffffff ffffffffffffffff"),
         "refused 3\n"
     );
-    assert_eq!(good("read ffffffffffffffff"), "refused 5\n");
-    assert_eq!(good("read 0000000000000300"), "value a00000000\n");
+    assert_eq!(good("read ffffffffffffffff 0"), "refused 5\n");
+    assert_eq!(good("read 0000000000000300 0"), "value a00000000\n");
 }
 
 #[test]
@@ -104,28 +104,28 @@ fn what_counts_as_a_number() {
 
 #[test]
 fn blanks_and_comments() {
-    let plain = good("read 300");
+    let plain = good("read 300 7");
     for script in [
-        "  read   300  ",
-        "\tread\t300\t",
-        "read 300\r\n",
-        "\r read \r 300",
-        "read 300 # comment",
-        "read 300# comment",
-        "read 300 #",
-        "read 300 ## # read 300",
-        "# read 300\nread 300",
+        "  read   300  7  ",
+        "\tread\t300\t7\t",
+        "read 300 7\r\n",
+        "\r read \r 300 \r7",
+        "read 300 7 # comment",
+        "read 300 7# comment",
+        "read 300 7 #",
+        "read 300 7 ## # read 300",
+        "# read 300\nread 300 7",
     ] {
         assert_eq!(good(script), plain, "{script:?}");
     }
-    assert!(is_bad(b"read# 300"));
+    assert!(is_bad(b"read# 300 7"));
     assert!(is_bad(b"load 30#0 8"));
 }
 
 #[test]
 fn a_comment_may_hold_any_bytes() {
-    assert_eq!(run_script(b"# \xff\xfe\x00\x01\nread 300\n").1, None);
-    assert_eq!(run_script(b"read 300 #\xff").1, None);
+    assert_eq!(run_script(b"# \xff\xfe\x00\x01\nread 300 7\n").1, None);
+    assert_eq!(run_script(b"read 300 7#\xff").1, None);
 }
 
 #[test]
@@ -143,26 +143,29 @@ fn bad_lines() {
         b"fetch 0",
         b"store 0 8 1",
         b"read",
-        b"read 300 0",
+        b"read 300",
+        b"read 300 0 0",
         b"write 300",
-        b"write 300 0 1",
+        b"write 300 0",
+        b"write 300 0 1 0",
         b"set 300 0",
-        b"set 300 0 2",
-        b"clear 300 0 2",
-        b"clear 300 0 ffffffffffffffff",
-        b"set 300 0 1 1",
+        b"set 300 0 1",
+        b"set 300 0 2 0",
+        b"clear 300 0 2 0",
+        b"clear 300 0 ffffffffffffffff 0",
+        b"set 300 0 1 1 0",
         b"trap 0 0 0 0",
         b"trap 0 0 0 0 2",
         b"trap 0 0 0 0 0 0",
         b"ecall 0",
         b"ebreak 0",
-        b"mret 0",
+        b"mret",
         b"sret x",
-        b"wfi 0",
+        b"wfi 0 0",
         b"sfence.vma 0 0",
         b"sfence",
-        b"hfence.vvma 0",
-        b"hfence.gvma 0",
+        b"hfence.vvma",
+        b"hfence.gvma #0",
         b"interrupt 0",
         b"interrupts",
         b"Interrupt",
@@ -201,8 +204,8 @@ fn bad_lines() {
         b"file 0 a\0b",
         b"\xff\xfe",
         b"\0",
-        b"read\x0b300",
-        b"\xef\xbb\xbfread 300",
+        b"read\x0b300 0",
+        b"\xef\xbb\xbfread 300 0",
     ] {
         assert!(is_bad(line), "{}", line.escape_ascii());
     }
@@ -210,13 +213,13 @@ fn bad_lines() {
 
 #[test]
 fn flags_are_numbers() {
-    assert_eq!(good("set 340 1 01\nread 340"), "value 0\nvalue 1\n");
-    assert_eq!(good("set 340 1 0000\nread 340"), "value 0\nvalue 0\n");
+    assert_eq!(good("set 340 1 01 0\nread 340 0"), "value 0\nvalue 1\n");
+    assert_eq!(good("set 340 1 0000 0\nread 340 0"), "value 0\nvalue 0\n");
 }
 
 #[test]
 fn a_bad_line_ends_the_run_and_what_was_answered_stays() {
-    let (output, line) = run_script(b"read 300\n\n# c\nwfi\nnonsense\nread 300\n");
+    let (output, line) = run_script(b"read 300 0\n\n# c\nwfi 0\nnonsense\nread 300 0\n");
     assert_eq!(output, "value a00000000\nok\nerror 5\n");
     assert_eq!(line, Some(5));
     let mut script = vec![b'\n'; 0x1f];
@@ -295,23 +298,148 @@ fn files() {
 #[test]
 fn answers() {
     assert_eq!(
-        good("ecall\nebreak\nmret\nsret\nwfi"),
+        good("ecall\nebreak\nmret 0\nsret 0\nwfi 0"),
         "ok\nok\nok\nok\nok\n"
     );
     assert_eq!(
-        good("hart 0 0 1\necall\nread 300\ntrap 0 0 0 0 0"),
+        good("hart 0 0 1\necall\nread 300 0\ntrap 0 0 0 0 0"),
         "refused 2\nrefused 2\nrefused 2\n"
     );
     assert_eq!(
         good("trap e 0 0 0 0\ntrap 15 0 0 0 1\ntrap 2 5 0 0 0"),
         "refused 4\nok\nok\n"
     );
-    assert_eq!(good("hart 1 1 0\nread 680\nread 680"), "value 0\nvalue 0\n");
     assert_eq!(
-        good("sfence.vma\nhfence.vvma\nhfence.gvma\nread 340\n"),
+        good("hart 1 1 0\nread 680 0\nread 680 0"),
+        "value 0\nvalue 0\n"
+    );
+    assert_eq!(
+        good("sfence.vma 0\nhfence.vvma 0\nhfence.gvma 0\nread 340 0\n"),
         "ok\nok\nok\nvalue 0\n"
     );
-    assert_eq!(good("read fff\nread 1000"), "value 0\nrefused 5\n");
+    assert_eq!(good("read fff 0\nread 1000 0"), "value 0\nrefused 5\n");
+}
+
+/// The lines that have a WORD, without it.
+const WITH_WORD: [&str; 12] = [
+    "read 300",
+    "write 300 0",
+    "set 300 0 0",
+    "set 300 0 1",
+    "clear 300 0 0",
+    "clear 300 0 1",
+    "mret",
+    "sret",
+    "wfi",
+    "sfence.vma",
+    "hfence.vvma",
+    "hfence.gvma",
+];
+
+#[test]
+fn a_word_has_at_most_32_bits() {
+    for line in WITH_WORD {
+        assert!(is_bad(line.as_bytes()), "{line}");
+        for (word, parsed) in [
+            ("0", 0),
+            ("ffffffff", u32::MAX),
+            ("FFFFFFFF", u32::MAX),
+            ("00000000ffffffff", u32::MAX),
+            ("0000000080000000", 1 << 31),
+            ("10500073", 0x1050_0073),
+        ] {
+            let found = parse(format!("{line} {word}").as_bytes()).unwrap();
+            assert_eq!(found.and_then(|line| line.word()), Some(parsed), "{line}");
+        }
+        for word in [
+            "100000000",
+            "180000000",
+            "8000000000000000",
+            "ffffffffffffffff",
+            "00000000000000000",
+            "0x73",
+            "x",
+            "0 0",
+        ] {
+            assert!(is_bad(format!("{line} {word}").as_bytes()), "{line} {word}");
+        }
+    }
+}
+
+#[test]
+fn the_other_lines_have_no_word() {
+    for line in [
+        "ecall",
+        "ebreak",
+        "interrupt",
+        "show",
+        "fetch 0 4",
+        "load 0 8",
+        "store 0 8",
+        "trap 2 0 0 0 0",
+    ] {
+        let parsed = parse(line.as_bytes()).unwrap().unwrap();
+        assert_eq!(parsed.word(), None);
+        assert!(is_bad(format!("{line} 73").as_bytes()), "{line}");
+    }
+    // The WORD of a trap request is another one: any number, which the model answers.
+    assert_eq!(good("trap 15 0 0 ffffffffffffffff 1"), "ok\n");
+    assert_eq!(good("trap 2 0 0 100000000 0"), "refused 4\n");
+}
+
+/// "Causes 2 and 22 raised by a register access, return, WFI or fence carry the 32-bit instruction word as the value": each of
+/// these lines where it traps, into each tval that it can go to, and into no other register.
+#[test]
+fn the_word_of_a_line_that_traps_is_in_tval() {
+    // The tval of M, HS and VS, and what delegates to them.
+    let targets = [
+        ("343", ""),
+        ("143", "reg 302 400004\n"),
+        ("243", "reg 302 4\nreg 602 4\n"),
+    ];
+    // A hart, lines that trap in it, and to how many of these they can go: cause 2 in U, 22 in VU, 2 in VS.
+    for (hart, lines, count) in [
+        ("hart 0 0 0\n", &WITH_WORD[..], 2),
+        (
+            "hart 1 0 0\n",
+            &[
+                "read 600",
+                "write 100 0",
+                "set 200 0 0",
+                "clear 680 0 1",
+                "sret",
+                "wfi",
+                "sfence.vma",
+                "hfence.vvma",
+                "hfence.gvma",
+            ],
+            2,
+        ),
+        (
+            "hart 1 1 0\nreg 300 a00200000\n",
+            &[
+                "read 300",
+                "write e12 0",
+                "set 0 0 1",
+                "clear 340 0 0",
+                "mret",
+                "wfi",
+            ],
+            3,
+        ),
+    ] {
+        for line in lines {
+            for (number, delegation) in &targets[..count] {
+                for word in ["80000000", "ffffffff", "deadbeef"] {
+                    let output = good(&format!("{hart}{delegation}{line} {word}\nshow"));
+                    let mut holding = output.lines().filter(|line| line.ends_with(word));
+                    let tval = format!("reg {number} {word}");
+                    assert_eq!(holding.next(), Some(tval.as_str()), "{hart}{line}");
+                    assert_eq!(holding.next(), None, "{hart}{line}");
+                }
+            }
+        }
+    }
 }
 
 #[test]
@@ -322,7 +450,7 @@ fn an_interrupt_answers_ok_or_refused_2() {
     assert_eq!(after, format!("ok\n{before}"));
     // One is taken.
     assert_eq!(
-        good("hart 1 1 40\nreg 305 1000\nreg 304 80\nreg 344 80\ninterrupt\nread 342\nread 341\nread 344"),
+        good("hart 1 1 40\nreg 305 1000\nreg 304 80\nreg 344 80\ninterrupt\nread 342 0\nread 341 0\nread 344 0"),
         "ok\nvalue 8000000000000007\nvalue 40\nvalue 80\n"
     );
     // The hart is refused.
@@ -367,7 +495,7 @@ fn a_closed_output_is_told() {
     let trouble = run(
         &mut session,
         Writing::Answers,
-        &mut &b"wfi\n"[..],
+        &mut &b"wfi 0\n"[..],
         &mut Closed,
     );
     assert!(matches!(trouble, Err(Trouble::Output(_))));

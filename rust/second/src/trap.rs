@@ -34,8 +34,8 @@ pub struct Trap {
 }
 
 impl Trap {
-    /// A trap raised by the model with value 0, second value and word 0 and the flag clear: the environment calls, "Causes 2 and
-    /// 22 raised by the model have value 0", and interrupts, "with value, second value, word and flag 0".
+    /// A trap raised by the model with value, second value and word 0 and the flag clear: the environment calls, and interrupts,
+    /// "with value, second value, word and flag 0".
     pub fn plain(cause: u64) -> Trap {
         Trap {
             cause,
@@ -177,11 +177,16 @@ pub fn trapped(hart: &Hart, mode: Mode, trap: Trap) -> Outcome {
     }
 }
 
-/// An event that traps with cause 2 or 22 by a rule.
-pub fn forbidden(hart: &Hart, mode: Mode, raised: Raised) -> Outcome {
+/// An event that traps with cause 2 or 22 by a rule, and its instruction word (change request 2026-02): "Causes 2 and 22 raised
+/// by a register access, return, WFI or fence carry the 32-bit instruction word as the value." The word goes nowhere else.
+pub fn forbidden(hart: &Hart, mode: Mode, raised: Raised, word: u32) -> Outcome {
+    let trap = Trap {
+        value: u64::from(word),
+        ..Trap::plain(raised.cause)
+    };
     Outcome {
         reason: Some(Reason::Forbidden(raised.rule)),
-        ..trapped(hart, mode, Trap::plain(raised.cause))
+        ..trapped(hart, mode, trap)
     }
 }
 
@@ -694,6 +699,48 @@ mod tests {
         let to_hs = request(&before, &Trap::plain(2)).hart;
         assert!(!bit(to_hs.hstatus, HSTATUS_GVA));
         assert!(bit(to_hs.mstatus, MSTATUS_GVA));
+    }
+
+    /// "Causes 2 and 22 raised by a register access, return, WFI or fence carry the 32-bit instruction word as the value": in the
+    /// target's tval, as a number that is not negative, and in no other register. Each bit of a word counts.
+    #[test]
+    fn the_word_of_an_instruction_that_traps_is_the_value() {
+        let rule = Forbidden::Bit(Control::Tw);
+        let words = (0..32).flat_map(|bit| [1 << bit, !(1 << bit)]);
+        for word in words.chain([0, u32::MAX, 0x1050_0073, 0x8000_0000]) {
+            for (raised, medeleg, hedeleg, target) in [
+                (illegal(rule), 0, 0, Target::M),
+                (illegal(rule), 4, 0, Target::Hs),
+                (illegal(rule), 4, 4, Target::Vs),
+                (virtual_instruction(rule), 0, 0, Target::M),
+                (virtual_instruction(rule), 1 << 22, 0, Target::Hs),
+            ] {
+                let mut before = hart(Mode::Vs);
+                (before.medeleg, before.hedeleg) = (medeleg, hedeleg);
+                let outcome = forbidden(&before, Mode::Vs, raised, word);
+                let trap = Trap {
+                    cause: raised.cause,
+                    value: u64::from(word),
+                    second: 0,
+                    word: 0,
+                    flag: false,
+                };
+                assert_eq!(outcome.ending, Ending::Trapped(trap, target));
+                assert_eq!(outcome.reason, Some(Reason::Forbidden(rule)));
+                assert_eq!(
+                    outcome.hart,
+                    request(&before, &trap).hart,
+                    "as if asked for"
+                );
+                let after = outcome.hart;
+                let mut tvals = [after.mtval, after.stval, after.vstval];
+                assert_eq!(tvals[target as usize], u64::from(word));
+                tvals[target as usize] = 0;
+                assert_eq!(tvals, [0; 3]);
+                assert_eq!((after.mtval2, after.htval), (0, 0));
+                assert_eq!((after.mtinst, after.htinst), (0, 0));
+            }
+        }
     }
 
     #[test]

@@ -1,4 +1,4 @@
-//! WFI and the fences. "WFI and fences that don't trap only move pc."
+//! WFI and the fences. "WFI and fences that don't trap only move pc." Each has its instruction word, for where it traps.
 
 use crate::bits::bit;
 use crate::hart::{Hart, Mode};
@@ -9,33 +9,33 @@ use crate::trap::{
 };
 
 /// WFI.
-pub fn wfi(hart: &Hart) -> Outcome {
-    wait_or_fence(hart, wfi_trap)
+pub fn wfi(hart: &Hart, word: u32) -> Outcome {
+    wait_or_fence(hart, word, wfi_trap)
 }
 
 /// SFENCE.VMA.
-pub fn sfence_vma(hart: &Hart) -> Outcome {
-    wait_or_fence(hart, sfence_vma_trap)
+pub fn sfence_vma(hart: &Hart, word: u32) -> Outcome {
+    wait_or_fence(hart, word, sfence_vma_trap)
 }
 
 /// HFENCE.VVMA.
-pub fn hfence_vvma(hart: &Hart) -> Outcome {
-    wait_or_fence(hart, |_, mode| hfence_trap("HFENCE.VVMA", mode))
+pub fn hfence_vvma(hart: &Hart, word: u32) -> Outcome {
+    wait_or_fence(hart, word, |_, mode| hfence_trap("HFENCE.VVMA", mode))
 }
 
 /// HFENCE.GVMA.
-pub fn hfence_gvma(hart: &Hart) -> Outcome {
-    wait_or_fence(hart, hfence_gvma_trap)
+pub fn hfence_gvma(hart: &Hart, word: u32) -> Outcome {
+    wait_or_fence(hart, word, hfence_gvma_trap)
 }
 
 /// The common part: check 2, then the trap that the instruction's own rule gives, else pc moves on.
-fn wait_or_fence(hart: &Hart, trap: fn(&Hart, Mode) -> Option<Raised>) -> Outcome {
+fn wait_or_fence(hart: &Hart, word: u32, trap: fn(&Hart, Mode) -> Option<Raised>) -> Outcome {
     let mode = match hart.check() {
         Ok(mode) => mode,
         Err(bad) => return refused_hart(hart, bad),
     };
     match trap(hart, mode) {
-        Some(raised) => forbidden(hart, mode, raised),
+        Some(raised) => forbidden(hart, mode, raised, word),
         None => only_moves_on(hart),
     }
 }
@@ -102,13 +102,15 @@ mod tests {
     /// The bits that the four may trap by, in the order of a setting.
     const BITS: [Control; 4] = [Control::Tvm, Control::Tw, Control::Vtvm, Control::Vtw];
 
+    const WORD: u32 = 0xf2a5_8073;
+
     /// A trap: its cause, and the place in the setting of the bit that it is by.
     type Expected = Option<(u64, Option<usize>)>;
 
     /// Runs one of them in every mode with every setting of the four trap bits and compares the cause and the reason.
     fn check(
         name: &'static str,
-        event: fn(&Hart) -> Outcome,
+        event: fn(&Hart, u32) -> Outcome,
         expected: fn(Mode, [bool; 4]) -> Expected,
     ) {
         for mode in Mode::ALL {
@@ -119,10 +121,13 @@ mod tests {
                 before.mstatus = with_bit(before.mstatus, TW, tw);
                 before.hstatus = with_bit(before.hstatus, VTVM, vtvm);
                 before.hstatus = with_bit(before.hstatus, VTW, vtw);
-                let outcome = event(&before);
+                let outcome = event(&before, WORD);
                 match expected(mode, [tvm, tw, vtvm, vtw]) {
                     Some((cause, bit)) => {
-                        let trap = Trap::plain(cause);
+                        let trap = Trap {
+                            value: u64::from(WORD),
+                            ..Trap::plain(cause)
+                        };
                         let rule = match bit {
                             Some(place) => Forbidden::Bit(BITS[place]),
                             None => Forbidden::Instruction(name, mode),
@@ -132,6 +137,7 @@ mod tests {
                             matches!(outcome.ending, Ending::Trapped(raised, _) if raised == trap)
                         );
                         assert_eq!(outcome.hart.mepc, 0x40);
+                        assert_eq!(outcome.hart.mtval, trap.value);
                     }
                     None => {
                         assert_eq!(outcome.ending, Ending::Done, "{mode:?} {setting:b}");
@@ -142,9 +148,9 @@ mod tests {
             }
         }
         let bad = Hart::new(0, 2, 0);
-        assert_eq!(event(&bad), refused_hart(&bad, BadHart::Mode(0, 2)));
+        assert_eq!(event(&bad, WORD), refused_hart(&bad, BadHart::Mode(0, 2)));
         let last = Hart::new(0, 3, u64::MAX - 3);
-        assert_eq!(event(&last).hart.pc, 0);
+        assert_eq!(event(&last, WORD).hart.pc, 0);
     }
 
     #[test]

@@ -47,7 +47,7 @@ impl Drop for Folder {
 
 #[test]
 fn a_script_from_standard_input() {
-    let output = through_input(b"read 300\nwfi");
+    let output = through_input(b"read 300 30002573\nwfi 10500073");
     assert_eq!(output.stdout, b"value a00000000\nok\n");
     assert_eq!(output.stderr, b"");
     assert_eq!(output.status.code(), Some(0));
@@ -64,11 +64,12 @@ fn an_empty_script() {
 fn reasons_are_written_where_they_are_asked_for() {
     let folder = Folder::new("reasons");
     let script = folder.0.join("script");
-    std::fs::write(&script, "read 1000\nload 0 8\nwfi\n").unwrap();
+    std::fs::write(&script, "read 1000 0\nload 0 8\nwfi 10500073\n").unwrap();
     let output = second().arg(&script).output().unwrap();
     assert_eq!(output.stdout, b"refused 5\nfault 5 0 0 0 0\nok\n");
-    let reasons: &[u8] = b"refused 5\n# why: register number 1000 is over fff\nfault 5 0 0 0 0\n\
-        # why: the access: 0 is outside the image: page 0 is missing\nok\n";
+    let reasons: &[u8] = b"refused 5\n# word: 0 does not fit: it is no SYSTEM instruction\n\
+        # why: register number 1000 is over fff\nfault 5 0 0 0 0\n\
+        # why: the access: 0 is outside the image: page 0 is missing\nok\n# word: 10500073 is WFI\n";
     let output = second().arg("--why").arg(&script).output().unwrap();
     assert_eq!(output.stdout, reasons);
     assert_eq!(output.status.code(), Some(0));
@@ -79,7 +80,7 @@ fn reasons_are_written_where_they_are_asked_for() {
 
 #[test]
 fn a_bad_script_ends_with_a_sentence() {
-    let output = through_input(b"wfi\nnonsense\nwfi\n");
+    let output = through_input(b"wfi 0\nnonsense\nwfi 0\n");
     assert_eq!(output.stdout, b"ok\nerror 2\n");
     assert_eq!(output.status.code(), Some(1));
     let sentence = String::from_utf8(output.stderr).unwrap();
@@ -194,7 +195,7 @@ fn a_reader_that_goes_away() {
 #[test]
 fn many_lines() {
     let lines = 300_000;
-    let output = through_input(&b"wfi\n".repeat(lines));
+    let output = through_input(&b"wfi 0\n".repeat(lines));
     assert_eq!(output.stdout.len(), 3 * lines);
     assert_eq!(output.status.code(), Some(0));
 }
@@ -211,7 +212,7 @@ fn large_images() {
 #[test]
 fn one_very_long_line() {
     let mut script = vec![b' '; 5_000_000];
-    script.extend(b"read 300");
+    script.extend(b"read 300 0");
     script.extend(vec![b' '; 5_000_000]);
     script.extend(b"# end");
     assert_eq!(through_input(&script).stdout, b"value a00000000\n");
@@ -226,9 +227,9 @@ const LONGEST_LINE: usize = 0x100_0000;
 #[test]
 fn a_line_of_16_mib_is_taken_and_no_longer_one() {
     let line = |length: usize| {
-        let mut script = b"wfi\nread 300".to_vec();
-        script.resize(b"wfi\n".len() + length, b' ');
-        script.extend(b"\nwfi\n");
+        let mut script = b"wfi 0\nread 300 0".to_vec();
+        script.resize(b"wfi 0\n".len() + length, b' ');
+        script.extend(b"\nwfi 0\n");
         script
     };
     let output = through_input(&line(LONGEST_LINE));
@@ -273,8 +274,8 @@ fn a_script_without_an_end() {
 fn a_raw_image_is_told_from_a_script() {
     for (script, line) in [
         (&b"\x7fELF\0"[..], 1),
-        (b"wfi\nload 0 8\0# a comment\n", 2),
-        (b"wfi # \0\nwfi\n\0", 3),
+        (b"wfi 0\nload 0 8\0# a comment\n", 2),
+        (b"wfi 0 # \0\nwfi 0\n\0", 3),
         (b"file 0 a\0b\n", 1),
     ] {
         let output = through_input(script);
@@ -286,7 +287,7 @@ fn a_raw_image_is_told_from_a_script() {
         assert!(sentence.contains("file BASE PATH"), "{sentence}");
     }
     // Behind `#` it is part of a comment, or of a path.
-    assert_eq!(through_input(b"wfi # \0\n").status.code(), Some(0));
+    assert_eq!(through_input(b"wfi 0 # \0\n").status.code(), Some(0));
     let output = through_input(b"file 0 #\0\n");
     assert_eq!(output.stdout, b"error 1\n");
     assert!(String::from_utf8_lossy(&output.stderr).contains("can't be read"));
@@ -315,22 +316,26 @@ fn a_tool_that_waits_for_each_answer_gets_it() {
     };
     let answer = || receiver.recv_timeout(Duration::from_secs(10)).ok();
     for _ in 0..3 {
-        write(b"read 300\n");
+        write(b"read 300 30002073\n");
         assert_eq!(answer().as_deref(), Some("value a00000000"));
+        let word = "# word: 30002073 is CSRRS: mstatus (300) read to x0";
+        assert_eq!(answer().as_deref(), Some(word));
     }
     // A line in two pieces, with the beginning of another behind it.
-    write(b"wfi\nread 10");
+    write(b"ecall\nread 10");
     assert_eq!(answer().as_deref(), Some("ok"));
-    write(b"00\nsh");
+    write(b"00 7\nsh");
     assert_eq!(answer().as_deref(), Some("refused 5"));
+    let word = "# word: 7 does not fit: it is no SYSTEM instruction";
+    assert_eq!(answer().as_deref(), Some(word));
     assert_eq!(
         answer().as_deref(),
         Some("# why: register number 1000 is over fff")
     );
     write(b"ow\n");
-    assert_eq!(answer().as_deref(), Some("hart 0 3 10"));
+    assert_eq!(answer().as_deref(), Some("hart 0 3 0"));
     // The answer of the last line needs no line feed, only the end.
-    write(b"wfi");
+    write(b"ecall");
     drop(input);
     let rest: Vec<String> = receiver.iter().collect();
     assert_eq!(rest.last().map(String::as_str), Some("ok"));

@@ -93,21 +93,35 @@ fn check_reason(outcome: &Outcome) {
     }
 }
 
+/// A register access, a return, WFI or a fence that traps has its word as the trap's value, and nothing else of it.
+fn check_word(outcome: &Outcome, word: u32) {
+    if let Ending::Trapped(trap, target) = outcome.ending {
+        let value = u64::from(word);
+        let cause = trap.cause;
+        assert_eq!(
+            trap,
+            Trap {
+                value,
+                ..Trap::plain(cause)
+            }
+        );
+        let tval = match target {
+            Target::M => outcome.hart.mtval,
+            Target::Hs => outcome.hart.stval,
+            Target::Vs => outcome.hart.vstval,
+        };
+        assert_eq!(tval, value);
+    }
+}
+
 /// Every event but translations, with random numbers.
 fn outcomes(random: &mut Random, hart: &Hart) -> Vec<Outcome> {
-    let mut outcomes = Vec::new();
-    for event in [
-        ecall,
-        ebreak,
-        mret,
-        sret,
-        wfi,
-        sfence_vma,
-        hfence_vvma,
-        hfence_gvma,
-        interrupt,
-    ] {
-        outcomes.push(event(hart));
+    let mut outcomes = vec![ecall(hart), ebreak(hart), interrupt(hart)];
+    for event in [mret, sret, wfi, sfence_vma, hfence_vvma, hfence_gvma] {
+        let word = random.bits() as u32;
+        let outcome = event(hart, word);
+        check_word(&outcome, word);
+        outcomes.push(outcome);
     }
     for _ in 0..4 {
         let trap = Trap {
@@ -141,7 +155,9 @@ fn outcomes(random: &mut Random, hart: &Hart) -> Vec<Outcome> {
             2 => Action::Set { value, writes },
             _ => Action::Clear { value, writes },
         };
-        let accessed = access(hart, number, action);
+        let word = random.bits() as u32;
+        let accessed = access(hart, number, action, word);
+        check_word(&accessed.outcome, word);
         if accessed.outcome.ending != Ending::Done {
             assert_eq!(accessed.old, 0, "a trap or refusal answers 0");
             assert!(accessed.outcome.reason.is_some());
@@ -185,6 +201,36 @@ fn a_hart_that_fails_check_2_is_refused_everywhere() {
         for outcome in outcomes(&mut random, &hart) {
             assert_eq!(outcome.ending, Ending::Refused(2));
             assert_eq!(outcome.hart, hart);
+        }
+    }
+}
+
+/// "Where it does not trap, or is refused, the word is not looked at": with another word the same comes of it.
+#[test]
+fn the_word_counts_for_nothing_but_the_value_of_a_trap() {
+    let mut random = Random(0xfeed);
+    for _ in 0..3000 {
+        let hart = match random.below(4) {
+            0 => any_hart(&mut random),
+            _ => legal_hart(&mut random),
+        };
+        let (one, other) = (random.bits() as u32, random.bits() as u32);
+        let same = |first: Outcome, second: Outcome| {
+            let trapped = matches!(first.ending, Ending::Trapped(..));
+            assert_eq!(first.reason, second.reason);
+            assert_eq!(first == second, !trapped || one == other);
+        };
+        for event in [mret, sret, wfi, sfence_vma, hfence_vvma, hfence_gvma] {
+            same(event(&hart, one), event(&hart, other));
+        }
+        for row in &ROWS {
+            let action = match random.below(2) {
+                0 => Action::Read,
+                _ => Action::Write(random.number()),
+            };
+            let [first, second] = [one, other].map(|word| access(&hart, row.number, action, word));
+            assert_eq!(first.old, second.old);
+            same(first.outcome, second.outcome);
         }
     }
 }

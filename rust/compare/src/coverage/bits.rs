@@ -11,6 +11,7 @@ use second::registers::{
 };
 
 use super::{add, count};
+use crate::words::{form, FORMS};
 
 /// A register of interrupts. Bits are given by their places in the home.
 #[derive(Clone, Copy, Debug)]
@@ -177,18 +178,6 @@ fn written(action: Action, old: u64) -> Option<u64> {
     }
 }
 
-/// The forms of an access: the word, and the flag of a set or clear.
-const FORMS: [&str; 6] = ["read", "write", "set 0", "set 1", "clear 0", "clear 1"];
-
-fn form(action: Action) -> &'static str {
-    match action {
-        Action::Read => FORMS[0],
-        Action::Write(_) => FORMS[1],
-        Action::Set { writes, .. } => FORMS[2 + usize::from(writes)],
-        Action::Clear { writes, .. } => FORMS[4 + usize::from(writes)],
-    }
-}
-
 /// What accesses to the registers of interrupts reached.
 #[derive(Clone, Debug, Default, PartialEq, Eq)]
 pub struct Bits {
@@ -314,7 +303,7 @@ mod tests {
                 }
                 let value = if setting & 4 == 4 { u64::MAX } else { 0 };
                 let action = Action::Write(value);
-                let done = access(&hart, number, action);
+                let done = access(&hart, number, action, 0);
                 bits.note(&hart, mode, number, action, &done);
             }
         }
@@ -332,7 +321,7 @@ mod tests {
         let mut hart = Hart::new(1, 1, 0);
         hart.mip = 0x004;
         let action = Action::Write(0x220);
-        let done = access(&hart, SIP, action);
+        let done = access(&hart, SIP, action, 0);
         bits.note(&hart, Mode::Vs, SIP, action, &done);
         let come = bits.cases[&(SIP, Mode::Vs)];
         assert_eq!(come[2..], [0x002, 0, 0, 0, 0, 0x220, 0x002]);

@@ -3,7 +3,7 @@
 use crate::scribe::Scribe;
 
 /// Lines that are bad whatever the image is.
-const ALWAYS_BAD: [&[u8]; 102] = [
+const ALWAYS_BAD: [&[u8]; 131] = [
     b"nonsense",
     b"Load 0 8",
     b"LOAD 0 8",
@@ -27,41 +27,70 @@ const ALWAYS_BAD: [&[u8]; 102] = [
     b"load 0#8",
     b"fetch",
     b"fetch 0",
-    b"fetch 0 4 4",
+    b"fetch 0 4 13",
     b"store 0",
     b"store 0 8 1",
     b"read",
-    b"read 300 0",
-    b"read #300",
-    b"read q",
+    b"read 300",
+    b"read 300 100000000",
+    b"read 300 30002073 0",
+    b"read #300 0",
+    b"read q 0",
+    b"read 300 0x73",
     b"write 300",
-    b"write 300 0 1",
+    b"write 300 0",
+    b"write 300 0 100000000",
+    b"write 300 0 30001073 0",
     b"set 300 0",
-    b"set 300 0 2",
-    b"set 300 0 10",
-    b"set 300 0 ffffffffffffffff",
-    b"set 300 0 1 1",
+    b"set 300 0 1",
+    b"set 300 0 2 0",
+    b"set 300 0 10 0",
+    b"set 300 0 ffffffffffffffff 0",
+    b"set 300 0 1 100000000",
+    b"set 300 0 1 30002073 0",
     b"clear 300 0",
-    b"clear 300 0 2",
-    b"clear 300 0 100000001",
+    b"clear 300 0 1",
+    b"clear 300 0 2 0",
+    b"clear 300 0 100000001 0",
+    b"clear 300 0 0 100000000",
+    b"clear 300 0 1 30003073 0",
     b"trap",
     b"trap 0 0 0 0",
     b"trap 0 0 0 0 2",
     b"trap 0 0 0 0 0 0",
     b"trap 0 0 0 0 x",
     b"ecall 0",
+    b"ecall 73",
     b"ecall x",
     b"ebreak 0",
-    b"mret 0",
-    b"sret 0",
-    b"wfi 0",
-    b"sfence.vma 0",
+    b"ebreak 100073",
+    b"mret",
+    b"mret 100000000",
+    b"mret 130200073",
+    b"mret 30200073 0",
+    b"sret",
+    b"sret 100000000",
+    b"sret ffffffffffffffff",
+    b"sret 10200073 0",
+    b"wfi",
+    b"wfi #10500073",
+    b"wfi 100000000",
+    b"wfi 00000000010500073",
+    b"wfi 10500073 0",
+    b"wfi 10500073g",
+    b"sfence.vma",
+    b"sfence.vma 100000000",
     b"sfence.vma 0 0",
-    b"sfence",
-    b"sfence .vma",
-    b"hfence.vvma 0",
-    b"hfence.gvma 0",
-    b"hfence",
+    b"sfence 0",
+    b"sfence .vma 0",
+    b"hfence.vvma",
+    b"hfence.vvma 100000000",
+    b"hfence.vvma 22000073 0",
+    b"hfence.gvma",
+    b"hfence.gvma 100000000",
+    b"hfence.gvma 8000000062000073",
+    b"hfence.gvma 62000073 0",
+    b"hfence 0",
     b"interrupt 0",
     b"interrupt x",
     b"interrupt interrupt",
@@ -189,19 +218,24 @@ fn random_bytes(scribe: &mut Scribe) -> Vec<u8> {
 #[cfg(test)]
 mod tests {
     use super::*;
-    use crate::program::{model, Folder};
-    use second::script::run_line;
+    use crate::program::Folder;
+    use second::script::parse;
+
+    /// Whether a line is bad after the lines so far.
+    fn is_bad(scribe: &mut Scribe, line: &[u8]) -> bool {
+        match parse(line) {
+            Ok(None) => false,
+            Ok(Some(line)) => scribe.session.perform(&line).is_err(),
+            Err(_) => true,
+        }
+    }
 
     #[test]
     fn bad_lines_are_bad() {
         let folder = Folder::new().unwrap();
         for line in ALWAYS_BAD.iter().chain(&BYTES) {
             let mut scribe = Scribe::new(1, folder.path().to_path_buf());
-            let text = line.escape_ascii().to_string();
-            assert!(
-                run_line(model, &mut scribe.session, line).is_err(),
-                "{text}"
-            );
+            assert!(is_bad(&mut scribe, line), "{}", line.escape_ascii());
         }
     }
 
@@ -229,9 +263,9 @@ mod tests {
                 .pick(&["image 1000 10", "image 0 0", "image 0 1000"]);
             scribe.line(image);
             let line = put_outside(&mut scribe);
-            assert!(run_line(model, &mut scribe.session, &line).is_err());
+            assert!(is_bad(&mut scribe, &line));
             let line = random_bytes(&mut scribe);
-            assert!(run_line(model, &mut scribe.session, &line).is_err());
+            assert!(is_bad(&mut scribe, &line));
         }
     }
 }

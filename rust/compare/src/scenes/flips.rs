@@ -32,7 +32,7 @@ pub fn flips(scribe: &mut Scribe, mode: Mode) {
 /// A line that meets a hart one bit away from `hart`, which passes.
 fn meets(scribe: &mut Scribe, hart: &Hart, meeting: Meeting, line: &str) {
     let flipped = scribe.session.hart;
-    scribe.line(line);
+    scribe.event(line);
     scribe.coverage.note_flip(hart, &flipped, meeting);
 }
 

@@ -44,11 +44,11 @@ fn afterwards(scribe: &mut Scribe) {
     };
     match scribe.rng.below(6) {
         0 | 1 => {
-            scribe.line(back);
+            scribe.event(back);
         }
         2 | 3 => {
             let line = scribe.rng.pick(written);
-            scribe.line(line);
+            scribe.event(line);
         }
         4 => {
             let number = scribe.rng.pick(&REGISTERS).number;
@@ -86,8 +86,8 @@ pub fn make_pending(scribe: &mut Scribe, hart: &mut Hart) {
     }
 }
 
-/// Fills what an interrupt sets to 0.
-fn fill_written(scribe: &mut Scribe, hart: &mut Hart) {
+/// Fills what a trap or an interrupt writes.
+pub fn fill_written(scribe: &mut Scribe, hart: &mut Hart) {
     for place in [
         &mut hart.mtval,
         &mut hart.mtval2,
@@ -279,7 +279,7 @@ fn each_form(scribe: &mut Scribe, mode: Mode, number: u64) {
             };
             let hart = pending_hart(scribe, mode);
             scribe.whole_hart(&hart);
-            scribe.line(&text);
+            scribe.event(&text);
             scribe.show();
         }
     }
@@ -315,6 +315,6 @@ fn each_bit(scribe: &mut Scribe, mode: Mode, number: u64) {
 /// A write, and the hart after it.
 fn written(scribe: &mut Scribe, hart: &Hart, number: u64, value: u64) {
     scribe.whole_hart(hart);
-    scribe.line(&format!("write {number:x} {value:x}"));
+    scribe.event(&format!("write {number:x} {value:x}"));
     scribe.show();
 }

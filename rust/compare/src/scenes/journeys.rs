@@ -46,7 +46,7 @@ fn step(scribe: &mut Scribe, mode: Mode) {
                 Mode::M => "mret",
                 _ => "sret",
             };
-            scribe.line(back);
+            scribe.event(back);
         }
         7 => {
             let number = scribe.rng.pick(&REGISTERS).number;
@@ -57,7 +57,7 @@ fn step(scribe: &mut Scribe, mode: Mode) {
         }
         _ => {
             let word = scribe.rng.pick(&BARE_EVENTS);
-            scribe.line(word);
+            scribe.event(word);
         }
     }
 }
@@ -75,5 +75,5 @@ fn set_previous_mode(scribe: &mut Scribe, mode: Mode) {
         (_, 1) => "write 141 8000",
         _ => "clear 100 100 1",
     };
-    scribe.line(text);
+    scribe.event(text);
 }

@@ -11,7 +11,7 @@ const KINDS: [(usize, &[u8], u8); 6] = [
     (0, b"#\0", 0),
     (1, b"", b' '),
     (1, b"# ", b'x'),
-    (1, b"wfi", b' '),
+    (1, b"wfi 0", b' '),
 ];
 
 /// How many kinds there are.
@@ -23,7 +23,7 @@ pub fn long_line(scribe: &mut Scribe, place: u64) {
     let mut line = begin.to_vec();
     line.resize(LONGEST_LINE + over, rest);
     scribe.lines.push(line);
-    scribe.lines.push(b"read 300".to_vec());
+    scribe.lines.push(b"read 300 0".to_vec());
 }
 
 #[cfg(test)]

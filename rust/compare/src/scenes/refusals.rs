@@ -134,7 +134,7 @@ fn event(scribe: &mut Scribe, bad: bool) {
         ),
         _ => scribe.rng.pick(&BARE_EVENTS).to_string(),
     };
-    scribe.line(&text);
+    scribe.event(&text);
 }
 
 /// A translation, good or refused as 3.
@@ -219,7 +219,7 @@ pub fn fields(scribe: &mut Scribe) {
         };
         scribe.reg(number, with_field(old, low, width, value));
         let word = scribe.rng.pick(&SIMPLE_EVENTS);
-        scribe.line(word);
+        scribe.event(word);
         scribe.show_sometimes(30);
     }
 }
@@ -249,7 +249,7 @@ pub fn interrupt_bits(scribe: &mut Scribe) {
     for bit in 0..64 {
         scribe.reg(number, content ^ (1 << bit));
         let word = scribe.rng.pick(&SIMPLE_EVENTS);
-        scribe.line(word);
+        scribe.event(word);
         if scribe.session.hart.checked_mode().is_some() {
             // It passed, and may have gone elsewhere.
             scribe.show();
@@ -272,7 +272,7 @@ pub fn modes_and_pcs(scribe: &mut Scribe) {
             .pick(&[0, 1, 2, 3, 4, u64::MAX, u64::MAX - 3, 1 << 63]);
         scribe.line(&format!("hart {v:x} {privilege:x} {pc:x}"));
         let word = scribe.rng.pick(&BARE_EVENTS);
-        scribe.line(word);
+        scribe.event(word);
         scribe.show();
     }
 }
@@ -306,7 +306,7 @@ pub fn mprv_everywhere(scribe: &mut Scribe) {
         scribe.hart(mode, 0);
         scribe.reg(registers::MSTATUS, 0xa_0002_0000);
         let word = scribe.rng.pick(&BARE_EVENTS);
-        scribe.line(word);
+        scribe.event(word);
         scribe.show();
     }
 }

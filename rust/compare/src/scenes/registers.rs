@@ -102,7 +102,7 @@ pub fn write_rules(scribe: &mut Scribe) {
             1 => format!("set {number:x} {value:x} {writes}"),
             _ => format!("clear {number:x} {value:x} {writes}"),
         };
-        scribe.line(&text);
+        scribe.event(&text);
         scribe.show();
     }
 }
@@ -137,5 +137,5 @@ pub fn access(scribe: &mut Scribe, number: u64) {
         4 => format!("clear {number:x} {value:x} 1"),
         _ => format!("clear {number:x} {value:x} 0"),
     };
-    scribe.line(&text);
+    scribe.event(&text);
 }

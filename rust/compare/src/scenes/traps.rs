@@ -7,7 +7,7 @@ use second::trap::Trap;
 use crate::scenes::interrupts::make_pending;
 use crate::scribe::Scribe;
 
-/// The events without numbers.
+/// The events without numbers, but for the word that most of them have.
 pub const BARE_EVENTS: [&str; 9] = [
     "ecall",
     "ebreak",
@@ -173,11 +173,11 @@ pub fn instructions(scribe: &mut Scribe) {
         let hart = trapping_hart(scribe, mode);
         scribe.whole_hart(&hart);
         let word = scribe.rng.pick(&BARE_EVENTS);
-        scribe.line(word);
+        scribe.event(word);
         scribe.show();
         if scribe.rng.chance(30) {
             let word = scribe.rng.pick(&BARE_EVENTS);
-            scribe.line(word);
+            scribe.event(word);
             scribe.show_sometimes(70);
         }
     }

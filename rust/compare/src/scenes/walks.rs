@@ -211,7 +211,7 @@ fn deliver(scribe: &mut Scribe, trap: &Trap) {
     scribe.show();
     if scribe.rng.chance(40) {
         let back = scribe.rng.pick(&["sret", "mret", "sret", "mret", "ecall"]);
-        scribe.line(back);
+        scribe.event(back);
         scribe.show();
     }
 }
