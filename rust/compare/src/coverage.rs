@@ -727,7 +727,7 @@ mod tests {
             "interrupt 9 to M with interrupt 2 to VS due",
             "no interrupt pending in Hs",
             "bits 222 of 144 in Vs: 1 written and not handed down",
-            "bits ffffffff of a word as 1 in VS's tval, by mret with cause 2",
+            "bits ffffffff of a word as 1 in VS's tval, by mret in VU with cause 2",
             "wfi done, with a word",
             "set refused as 5, with a word",
             "an event and its word: write and CSRRW, S 0, N its number, S not its value",

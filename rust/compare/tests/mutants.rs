@@ -195,7 +195,7 @@ const MUTANTS: &[Mutant] = &[
     Mutant("trap.rs", "    after.mtinst = trap.word;", "    if !matches!(trap.cause, 8..=11) { after.mtinst = trap.word; }"),
     Mutant("trap.rs", "    after.stval = trap.value;", "    if !matches!(trap.cause, 8..=11) { after.stval = trap.value; }"),
     Mutant("trap.rs", "    after.mtval = trap.value;", "    if !matches!(trap.cause, 8..=11) { after.mtval = trap.value; }"),
-    Mutant("waits.rs", "wait_or_fence(hart, |_, mode| hfence_trap(\"HFENCE.VVMA\", mode))", "wait_or_fence(hart, hfence_gvma_trap)"),
+    Mutant("waits.rs", "wait_or_fence(hart, word, |_, mode| hfence_trap(\"HFENCE.VVMA\", mode))", "wait_or_fence(hart, word, hfence_gvma_trap)"),
     Mutant("walk.rs", "let width = if level == TOP_LEVEL { 11 }", "let width = if level == TOP_LEVEL || level == 0 { 11 }"),
     Mutant("walk.rs", "self.fault(21, second, 0x3000, why)", "self.fault(21, second, if why.rule == Rule::HighBits { 0 } else { 0x3000 }, why)"),
     Mutant("walk.rs", "self.fault(21, second, 0x3000, why)", "self.fault(if why.rule == Rule::HighBits { self.access.kind.guest_page_fault() } else { 21 }, second, 0x3000, why)"),
@@ -339,7 +339,7 @@ const REASONS: &[Mutant] = &[
     Mutant("registers.rs", "Field::reads_2(\"SXL\", 34)", "Field::reads_2(\"UXL\", 34)"),
     Mutant("registers.rs", "let lowest = ((content ^ row.constant) & others).trailing_zeros();", "let found = (content ^ row.constant) & others;\n    let lowest = if found == 0 { 64 } else { 63 - found.leading_zeros() };"),
     Mutant("registers.rs", "Some(Wrong::Field(field, holds))", "Some(Wrong::Field(field, holds & 3))"),
-    Mutant("hart.rs", "ROWS.iter().find_map(", "ROWS.iter().rev().find_map("),
+    Mutant("hart.rs", "let mut registers = self.registers();", "let mut registers = self.registers().rev();"),
     Mutant("hart.rs", "BadHart::Mode(self.v, self.privilege)", "BadHart::Mode(self.privilege, self.v)"),
     Mutant("hart.rs", "        if !self.pc.is_multiple_of(4) {\n            return Err(BadHart::Pc(self.pc));\n        }\n        if mode != Mode::M && bit(self.mstatus, MPRV) {\n            return Err(BadHart::MprvOutsideM);\n        }\n", "        if mode != Mode::M && bit(self.mstatus, MPRV) {\n            return Err(BadHart::MprvOutsideM);\n        }\n        if !self.pc.is_multiple_of(4) {\n            return Err(BadHart::Pc(self.pc));\n        }\n"),
     // image.rs
@@ -408,16 +408,187 @@ const INTERRUPT_REASONS: &[Mutant] = &[
     Mutant("reasons.rs", "Target::M => \"mstatus.MIE\",", "Target::M => \"mstatus.SIE\","),
 ];
 
+/// Changes to what change request 2026-02 asks for.
+const WORDS: &[Mutant] = &[
+    // trap.rs
+    Mutant("trap.rs", "value: u64::from(word),", "value: 0,"),
+    Mutant("trap.rs", "value: u64::from(word),", "value: u64::from(word & 0xffff),"),
+    Mutant("trap.rs", "value: u64::from(word),", "value: u64::from(word & 0xffff_0000),"),
+    Mutant("trap.rs", "value: u64::from(word),", "value: u64::from(word & !3),"),
+    Mutant("trap.rs", "value: u64::from(word),", "value: u64::from(word | 3),"),
+    Mutant("trap.rs", "value: u64::from(word),", "value: u64::from(word << 1),"),
+    Mutant("trap.rs", "value: u64::from(word),", "value: u64::from(word >> 2),"),
+    Mutant("trap.rs", "value: u64::from(word),", "value: u64::from(word.swap_bytes()),"),
+    Mutant("trap.rs", "value: u64::from(word),", "value: word as i32 as u64,"),
+    Mutant("trap.rs", "value: u64::from(word),", "value: u64::from(word) << 32,"),
+    Mutant("trap.rs", "value: u64::from(word),", "value: hart.pc,"),
+    Mutant("trap.rs", "value: u64::from(word),", "value: u64::from(word),\n        word: u64::from(word),"),
+    Mutant("trap.rs", "value: u64::from(word),", "value: 0,\n        word: u64::from(word),"),
+    Mutant("trap.rs", "value: u64::from(word),", "value: u64::from(word),\n        second: u64::from(word),"),
+    Mutant("trap.rs", "value: u64::from(word),", "value: u64::from(word),\n        flag: mode.v(),"),
+    Mutant("trap.rs", "value: u64::from(word),", "value: if raised.cause == ILLEGAL_INSTRUCTION { u64::from(word) } else { 0 },"),
+    Mutant("trap.rs", "value: u64::from(word),", "value: if raised.cause == VIRTUAL_INSTRUCTION { u64::from(word) } else { 0 },"),
+    Mutant("trap.rs", "value: u64::from(word),", "value: if mode.v() { 0 } else { u64::from(word) },"),
+    Mutant("trap.rs", "value: u64::from(word),", "value: if mode == Mode::M { 0 } else { u64::from(word) },"),
+    Mutant("trap.rs", "value: u64::from(word),", "value: if target(hart, mode, raised.cause) == Target::M { u64::from(word) } else { 0 },"),
+    Mutant("trap.rs", "value: u64::from(word),", "value: if target(hart, mode, raised.cause) == Target::Vs { 0 } else { u64::from(word) },"),
+    Mutant("trap.rs", "value: u64::from(word),", "value: if word & 0x7f == 0x73 { u64::from(word) } else { 0 },"),
+    Mutant("trap.rs", "value: u64::from(word),", "value: match raised.rule { Forbidden::Bit(_) => 0, _ => u64::from(word) },"),
+    Mutant("trap.rs", "value: u64::from(word),", "value: match raised.rule { Forbidden::Unlisted(_) => 0, _ => u64::from(word) },"),
+    // access.rs
+    Mutant("access.rs", "forbidden(hart, mode, raised, word)", "forbidden(hart, mode, raised, 0)"),
+    Mutant("access.rs", "forbidden(hart, mode, raised, word)", "forbidden(hart, mode, raised, number as u32)"),
+    Mutant("access.rs", "forbidden(hart, mode, raised, word)", "forbidden(hart, mode, raised, if action == Action::Read { 0 } else { word })"),
+    Mutant("access.rs", "forbidden(hart, mode, raised, word)", "forbidden(hart, mode, raised, if matches!(action, Action::Write(_)) { 0 } else { word })"),
+    Mutant("access.rs", "forbidden(hart, mode, raised, word)", "forbidden(hart, mode, raised, if matches!(action, Action::Set { .. }) { 0 } else { word })"),
+    Mutant("access.rs", "forbidden(hart, mode, raised, word)", "forbidden(hart, mode, raised, if matches!(action, Action::Clear { .. }) { 0 } else { word })"),
+    Mutant("access.rs", "    if number > LAST_NUMBER {", "    if number > LAST_NUMBER || (number != u64::from(word >> 20) && word != 0) {"),
+    // returns.rs
+    Mutant("returns.rs", "return forbidden(hart, mode, raised, word);", "return forbidden(hart, mode, raised, 0);"),
+    Mutant("returns.rs", "return forbidden(hart, mode, raised, word);", "return forbidden(hart, mode, raised, 0x3020_0073);"),
+    Mutant("returns.rs", "Some(raised) => forbidden(hart, mode, raised, word),", "Some(raised) => forbidden(hart, mode, raised, 0),"),
+    Mutant("returns.rs", "Some(raised) => forbidden(hart, mode, raised, word),", "Some(raised) => forbidden(hart, mode, raised, 0x1020_0073),"),
+    // waits.rs
+    Mutant("waits.rs", "wait_or_fence(hart, word, wfi_trap)", "wait_or_fence(hart, 0, wfi_trap)"),
+    Mutant("waits.rs", "wait_or_fence(hart, word, wfi_trap)", "wait_or_fence(hart, 0x1050_0073, wfi_trap)"),
+    Mutant("waits.rs", "wait_or_fence(hart, word, sfence_vma_trap)", "wait_or_fence(hart, 0, sfence_vma_trap)"),
+    Mutant("waits.rs", "wait_or_fence(hart, word, |_, mode|", "wait_or_fence(hart, 0, |_, mode|"),
+    Mutant("waits.rs", "wait_or_fence(hart, word, hfence_gvma_trap)", "wait_or_fence(hart, 0, hfence_gvma_trap)"),
+    Mutant("waits.rs", "None => only_moves_on(hart),", "None => { let mut after = only_moves_on(hart); after.hart.mtval = u64::from(word); after }"),
+    // calls.rs
+    Mutant("calls.rs", "trapped(hart, mode, Trap::plain(cause))", "trapped(hart, mode, Trap { value: 0x73, ..Trap::plain(cause) })"),
+    Mutant("calls.rs", "value: hart.pc,", "value: 0x10_0073,"),
+    // script.rs
+    Mutant("script.rs", "u32::try_from(number).map_err(over)", "u32::try_from(number).map_err(over).or(Ok(number as u32))"),
+    Mutant("script.rs", "let [number, word] = numbers(rest)?;\n            register_line(number, Action::Read, word)?", "let [number, word] = numbers(rest).or_else(|_| numbers(rest).map(|[number]| [number, 0]))?;\n            register_line(number, Action::Read, word)?"),
+    Mutant("script.rs", "let [number, value, word] = numbers(rest)?;", "let [number, value, word] = numbers(rest).or_else(|_| numbers(rest).map(|[number, value]| [number, value, 0]))?;"),
+    Mutant("script.rs", "let [number, value, word] = numbers(rest)?;", "let [number, word, value] = numbers(rest)?;"),
+    Mutant("script.rs", "    let [word] = numbers(rest)?;\n", "    let [word] = numbers(rest).or_else(|_| numbers(rest).map(|[]| [0]))?;\n"),
+    Mutant("script.rs", "    let [word] = numbers(rest)?;\n", "    let [word] = numbers(rest).or_else(|_| numbers(rest).map(|[word, _]| [word]))?;\n"),
+    Mutant("script.rs", "b\"ecall\" => alone(Line::Ecall, rest)?,", "b\"ecall\" => Line::Ecall,"),
+    Mutant("script.rs", "b\"ebreak\" => alone(Line::Ebreak, rest)?,", "b\"ebreak\" => Line::Ebreak,"),
+    Mutant("script.rs", "b\"interrupt\" => alone(Line::Interrupt, rest)?,", "b\"interrupt\" => Line::Interrupt,"),
+];
+
+/// Changes to what is said about words, which no answer shows.
+const WORD_LINES: &[Mutant] = &[
+    // word.rs: what a word is
+    Mutant("word.rs", "field(word, 0, 7) != SYSTEM", "field(word, 0, 6) != SYSTEM & 0x3f"),
+    Mutant("word.rs", "field(word, 0, 7) != SYSTEM", "field(word, 2, 5) != SYSTEM >> 2"),
+    Mutant("word.rs", "(0x0000_0073, Decoded::Ecall)", "(0x0000_0073, Decoded::Ebreak)"),
+    Mutant("word.rs", "(0x0010_0073, Decoded::Ebreak)", "(0x0010_0073, Decoded::Ecall)"),
+    Mutant("word.rs", "(0x0010_0073, Decoded::Ebreak)", "(0x0000_8073, Decoded::Ebreak)"),
+    Mutant("word.rs", "(0x3020_0073, Decoded::Bare(Instruction::Mret))", "(0x3020_0073, Decoded::Bare(Instruction::Sret))"),
+    Mutant("word.rs", "(0x3020_0073, Decoded::Bare(Instruction::Mret))", "(0x3010_0073, Decoded::Bare(Instruction::Mret))"),
+    Mutant("word.rs", "(0x1020_0073, Decoded::Bare(Instruction::Sret))", "(0x1020_0073, Decoded::Bare(Instruction::Mret))"),
+    Mutant("word.rs", "(0x1050_0073, Decoded::Bare(Instruction::Wfi))", "(0x1040_0073, Decoded::Bare(Instruction::Wfi))"),
+    Mutant("word.rs", "*whole == word)", "*whole == word & !(0x1f << 7))"),
+    Mutant("word.rs", "*whole == word)", "*whole == word & !(0x1f << 15))"),
+    Mutant("word.rs", "(0x09, Instruction::SfenceVma)", "(0x0b, Instruction::SfenceVma)"),
+    Mutant("word.rs", "(0x09, Instruction::SfenceVma)", "(0x09, Instruction::HfenceVvma)"),
+    Mutant("word.rs", "(0x11, Instruction::HfenceVvma)", "(0x11, Instruction::HfenceGvma)"),
+    Mutant("word.rs", "(0x11, Instruction::HfenceVvma)", "(0x13, Instruction::HfenceVvma)"),
+    Mutant("word.rs", "(0x31, Instruction::HfenceGvma)", "(0x31, Instruction::HfenceVvma)"),
+    Mutant("word.rs", "(0x31, Instruction::HfenceGvma)", "(0x39, Instruction::HfenceGvma)"),
+    Mutant("word.rs", "*function == field(word, 25, 7)", "*function == field(word, 25, 6)"),
+    Mutant("word.rs", "if field(word, 7, 8) != 0 {", "if field(word, 12, 3) != 0 {"),
+    Mutant("word.rs", "if field(word, 7, 8) != 0 {", "if field(word, 7, 5) != 0 {"),
+    Mutant("word.rs", "        address: field(word, 15, 5),\n        space: field(word, 20, 5),", "        address: field(word, 20, 5),\n        space: field(word, 15, 5),"),
+    Mutant("word.rs", "space: field(word, 20, 5),", "space: field(word, 20, 4),"),
+    Mutant("word.rs", "(1, Operation::Write, false)", "(1, Operation::Write, true)"),
+    Mutant("word.rs", "(2, Operation::Set, false),\n    (3, Operation::Clear, false),", "(2, Operation::Clear, false),\n    (3, Operation::Set, false),"),
+    Mutant("word.rs", "(2, Operation::Set, false)", "(2, Operation::Write, false)"),
+    Mutant("word.rs", "(3, Operation::Clear, false)", "(4, Operation::Clear, false)"),
+    Mutant("word.rs", "(5, Operation::Write, true)", "(5, Operation::Write, false)"),
+    Mutant("word.rs", "(5, Operation::Write, true)", "(4, Operation::Write, true)"),
+    Mutant("word.rs", "(6, Operation::Set, true),\n    (7, Operation::Clear, true),", "(6, Operation::Clear, true),\n    (7, Operation::Set, true),"),
+    Mutant("word.rs", "(6, Operation::Set, true)", "(6, Operation::Set, false)"),
+    Mutant("word.rs", "(7, Operation::Clear, true)", "(7, Operation::Clear, false)"),
+    Mutant("word.rs", "*function == field(word, 12, 3)", "*function == field(word, 12, 2)"),
+    Mutant("word.rs", "        source: field(word, 15, 5),\n        destination: field(word, 7, 5),", "        source: field(word, 7, 5),\n        destination: field(word, 15, 5),"),
+    Mutant("word.rs", "source: field(word, 15, 5),", "source: field(word, 15, 4),"),
+    Mutant("word.rs", "destination: field(word, 7, 5),", "destination: field(word, 8, 5),"),
+    Mutant("word.rs", "number: field(word, 20, 12),", "number: field(word, 20, 11),"),
+    Mutant("word.rs", "number: field(word, 20, 12),", "number: field(word, 20, 12) ^ 1,"),
+    // word.rs: whether it fits
+    Mutant("word.rs", "=> this == instruction,", "=> true,"),
+    Mutant("word.rs", "this.fence == *instruction", "true"),
+    Mutant("word.rs", "this.number == *number && this.fits(*action)", "this.fits(*action)"),
+    Mutant("word.rs", "this.number == *number && this.fits(*action)", "this.number == *number"),
+    Mutant("word.rs", "this.number == *number && this.fits(*action)", "this.number == *number & 0xfff && this.fits(*action)"),
+    Mutant("word.rs", "self.operation != Operation::Write && self.source == 0", "self.source == 0"),
+    Mutant("word.rs", "self.operation != Operation::Write && self.source == 0", "self.operation == Operation::Set && self.source == 0"),
+    Mutant("word.rs", "self.operation != Operation::Write && self.source == 0", "self.operation != Operation::Write && self.source == 0 && !self.immediate"),
+    Mutant("word.rs", "self.operation != Operation::Write && self.source == 0", "self.operation != Operation::Write && self.source == 0 && self.destination != 0"),
+    Mutant("word.rs", "Action::Read => return self.only_reads(),", "Action::Read => return self.only_reads() && self.operation == Operation::Set,"),
+    Mutant("word.rs", "Action::Read => return self.only_reads(),", "Action::Read => return self.only_reads() && !self.immediate,"),
+    Mutant("word.rs", "Action::Read => return self.only_reads(),", "Action::Read => return self.operation != Operation::Write,"),
+    Mutant("word.rs", "if self.operation != operation {", "if (self.operation == Operation::Write) != (operation == Operation::Write) {"),
+    Mutant("word.rs", "} else if action.writes() {", "} else if true {"),
+    Mutant("word.rs", "!self.only_reads() && self.can_give(value)", "!self.only_reads()"),
+    Mutant("word.rs", "!self.only_reads() && self.can_give(value)", "self.can_give(value)"),
+    Mutant("word.rs", "        } else {\n            self.only_reads()\n        }", "        } else {\n            true\n        }"),
+    Mutant("word.rs", "        } else {\n            self.only_reads()\n        }", "        } else {\n            self.only_reads() && value == 0\n        }"),
+    Mutant("word.rs", "if self.immediate || self.source == 0 {", "if self.immediate {"),
+    Mutant("word.rs", "if self.immediate || self.source == 0 {", "if self.source == 0 {"),
+    Mutant("word.rs", "value == self.source", "value & 0x1f == self.source"),
+    Mutant("word.rs", "value == self.source", "value & 0xffff_ffff == self.source"),
+    Mutant("word.rs", "            true\n", "            value != 0\n"),
+    Mutant("word.rs", "            true\n", "            value >= 32\n"),
+    Mutant("word.rs", "let fits = decoded.fits(line);", "let fits = decoded != Decoded::NoSystem;"),
+    // word.rs: in words
+    Mutant("word.rs", "text.write_str(\"ECALL\")", "text.write_str(\"EBREAK\")"),
+    Mutant("word.rs", "Instruction::Mret => \"MRET\",", "Instruction::Mret => \"SRET\","),
+    Mutant("word.rs", "Instruction::Wfi => \"WFI\",", "Instruction::Wfi => \"wfi\","),
+    Mutant("word.rs", "Instruction::HfenceVvma => \"HFENCE.VVMA\",", "Instruction::HfenceVvma => \"SFENCE.VMA\","),
+    Mutant("word.rs", "Instruction::HfenceGvma => \"HFENCE.GVMA\",", "Instruction::HfenceGvma => \"HFENCE.VVMA\","),
+    Mutant("word.rs", "Instruction::HfenceGvma => \"VMID\",", "Instruction::HfenceVvma => \"VMID\","),
+    Mutant("word.rs", "Instruction::HfenceGvma => \"VMID\",\n            _ => \"ASID\",", "Instruction::SfenceVma => \"ASID\",\n            _ => \"VMID\","),
+    Mutant("word.rs", "match self.address {\n            0 =>", "match self.address {\n            0 | 1 =>"),
+    Mutant("word.rs", "match self.space {\n            0 =>", "match self.space {\n            0 | 31 =>"),
+    Mutant("word.rs", "\"the address in x{register}, \"", "\"the address in x{register:x}, \""),
+    Mutant("word.rs", "\"the {space} in x{register}\"", "\"the {space} in x{register:x}\""),
+    Mutant("word.rs", "\"{register} read to x{}\"", "\"{register} read to x{:x}\""),
+    Mutant("word.rs", "\", the old value to x{}\"", "\", the old value to x{:x}\""),
+    Mutant("word.rs", "\"the bits of {source} set in {register}\"", "\"the bits of {source} cleared in {register}\""),
+    Mutant("word.rs", "\"the bits of {source} cleared in {register}\"", "\"the bits of {source} set in {register}\""),
+    Mutant("word.rs", "=> \"CSRRW\",", "=> \"CSRRS\","),
+    Mutant("word.rs", "=> \"CSRRWI\",", "=> \"CSRRW\","),
+    Mutant("word.rs", "=> \"CSRRS\",", "=> \"CSRRW\","),
+    Mutant("word.rs", "=> \"CSRRSI\",", "=> \"CSRRS\","),
+    Mutant("word.rs", "=> \"CSRRC\",", "=> \"CSRRS\","),
+    Mutant("word.rs", "=> \"CSRRCI\",", "=> \"CSRRC\","),
+    Mutant("word.rs", "format!(\"{:x}\", self.source)", "format!(\"{}\", self.source)"),
+    Mutant("word.rs", "format!(\"x{}\", self.source)", "format!(\"x{:x}\", self.source)"),
+    Mutant("word.rs", "if self.immediate {\n            format!(\"{:x}\", self.source)", "if !self.immediate {\n            format!(\"{:x}\", self.source)"),
+    Mutant("word.rs", "format!(\"{} ({:x})\", row.name, row.number)", "format!(\"{} ({})\", row.name, row.number)"),
+    Mutant("word.rs", "format!(\"{} ({:x})\", row.name, row.number)", "row.name.to_string()"),
+    Mutant("word.rs", "format!(\"register {:x}\", self.number)", "format!(\"register {}\", self.number)"),
+    Mutant("word.rs", "\"{:x} {relation} {}\"", "\"{:08x} {relation} {}\""),
+    Mutant("word.rs", "\"does not fit: it is\"", "\"is\""),
+    // script.rs
+    Mutant("script.rs", "if let Some(word) = Explanation::of(line) {", "if let Some(word) = Explanation::of(line).filter(|_| answer.reason().is_some()) {"),
+    Mutant("script.rs", "if let Some(word) = Explanation::of(line) {", "if let Some(word) = Explanation::of(line).filter(|_| answer.reason().is_none()) {"),
+    Mutant("script.rs", "if let Some(word) = Explanation::of(line) {", "if let Some(word) = Explanation::of(line).filter(|_| !matches!(answer.reason(), Some(Reason::Refused(_)))) {"),
+    Mutant("script.rs", "    if let Some(word) = Explanation::of(line) {\n        writeln!(output, \"# word: {word}\")?;\n    }\n    if let Some(reason) = answer.reason() {\n        writeln!(output, \"# why: {reason}\")?;\n    }\n", "    if let Some(reason) = answer.reason() {\n        writeln!(output, \"# why: {reason}\")?;\n    }\n    if let Some(word) = Explanation::of(line) {\n        writeln!(output, \"# word: {word}\")?;\n    }\n"),
+];
+
 fn source() -> PathBuf {
     Path::new(env!("CARGO_MANIFEST_DIR")).join("../second/src")
 }
 
 #[test]
 fn every_mutant_still_fits_the_source() {
-    for mutants in [MUTANTS, INTERRUPTS, REASONS, INTERRUPT_REASONS] {
-        for mutant in mutants {
-            mutant.changed_text(&source());
-        }
+    let all = [
+        MUTANTS,
+        INTERRUPTS,
+        REASONS,
+        INTERRUPT_REASONS,
+        WORDS,
+        WORD_LINES,
+    ];
+    for mutant in all.into_iter().flatten() {
+        mutant.changed_text(&source());
     }
 }
 
@@ -512,4 +683,16 @@ fn every_mutant_of_a_reason_is_caught() {
 #[ignore = "takes minutes"]
 fn every_mutant_of_an_interrupts_reason_is_caught() {
     check(INTERRUPT_REASONS, |_| false);
+}
+
+#[test]
+#[ignore = "takes minutes"]
+fn every_mutant_of_words_is_caught() {
+    check(WORDS, |Mutant(file, ..)| *file != "script.rs");
+}
+
+#[test]
+#[ignore = "takes minutes"]
+fn every_mutant_of_what_is_said_about_words_is_caught() {
+    check(WORD_LINES, |_| false);
 }

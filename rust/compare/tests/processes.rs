@@ -89,10 +89,15 @@ fn a_full_run_that_reaches_nothing_fails() {
         text.contains("not reached: the reason \"mstatus.TW is 1\""),
         "{text}"
     );
+    assert!(
+        text.contains("not reached: the word \"* is MRET\""),
+        "{text}"
+    );
     let answers = ["--answers", "--events", "2000", "--seed", "1"];
     let text = said(&compare(&[&["true", "true"][..], &answers].concat()));
     assert!(text.contains("not reached: refusal 4"), "{text}");
     assert!(!text.contains("not reached: the reason"), "{text}");
+    assert!(!text.contains("not reached: the word"), "{text}");
 }
 
 /// `echo` writes what it is called with.
@@ -213,6 +218,8 @@ fn the_second_program_agrees_with_its_library() {
         Ok(coverage) => {
             assert!(coverage.scripts > 10);
             assert!(coverage.reasons.values().sum::<u64>() > 1000);
+            let said = coverage.instruction_words.lines;
+            assert!(said.values().sum::<u64>() > 1000);
         }
         Err(Failure::Different(difference)) => panic!("{difference}"),
         Err(Failure::NotRun(name, error)) => panic!("{name}: {error}"),

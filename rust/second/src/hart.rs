@@ -171,6 +171,13 @@ impl Hart {
         copy.stored_mut(number).map(|content| *content)
     }
 
+    /// The stored registers and their contents, in rising order of number.
+    pub fn registers(&self) -> impl DoubleEndedIterator<Item = (&'static Row, u64)> {
+        let mut copy = *self;
+        let rows = ROWS.iter();
+        rows.filter_map(move |row| Some((row, *copy.stored_mut(row.number)?)))
+    }
+
     /// The place of the stored register with this number; none for a number that names no stored register.
     pub fn stored_mut(&mut self, number: u64) -> Option<&mut u64> {
         match number {
@@ -234,10 +241,8 @@ impl Hart {
 
     /// The first stored register, in rising order of number, that holds what no write could store.
     fn wrong_register(&self) -> Option<(&'static Row, Wrong)> {
-        ROWS.iter().find_map(|row| {
-            let content = self.stored(row.number)?;
-            Some((row, wrong(row, content)?))
-        })
+        let mut registers = self.registers();
+        registers.find_map(|(row, content)| Some((row, wrong(row, content)?)))
     }
 
     /// The hart in another mode.

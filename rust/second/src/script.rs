@@ -15,7 +15,6 @@ use crate::image::Image;
 use crate::interrupts::interrupt;
 use crate::lines::Lines;
 use crate::reasons::Reason;
-use crate::registers::ROWS;
 use crate::returns::{mret, sret};
 use crate::trap::{request, Ending, Outcome, Trap};
 use crate::waits::{hfence_gvma, hfence_vvma, sfence_vma, wfi};
@@ -589,10 +588,8 @@ fn write_hart<W: Write>(output: &mut W, hart: &Hart) -> io::Result<()> {
         "hart {:x} {:x} {:x}",
         hart.v, hart.privilege, hart.pc
     )?;
-    for row in &ROWS {
-        if let Some(content) = hart.stored(row.number) {
-            writeln!(output, "reg {:x} {content:x}", row.number)?;
-        }
+    for (row, content) in hart.registers() {
+        writeln!(output, "reg {:x} {content:x}", row.number)?;
     }
     Ok(())
 }
