@@ -47,10 +47,6 @@ abbrev telltale : Hart
 telltale =
     interrupt (record { v = 0; privilege = 1; pc = 0; regs = waiting 0 1 0x80 0x444 0 0 0 0 .regs with (mtval ↢ 5 ∷ mtval2 ↢ 5 ∷ mtinst ↢ 5 ∷ mstatus ↢ (0xA00000000 after (GVA := 1 ∷ [])) ∷ []) }) .hart
 
--- WFI in VU: cause 22, not delegated
-abbrev waited : Hart
-waited = wfi (in-mode 1 0 []) 0x10500073 .hart
-
 -- the interrupt that is taken; 0: none; 100 and more: refused
 abbrev taken : Hart → ℕ
 taken h = of (interrupt h .outcome)
@@ -128,11 +124,8 @@ cases =
     -- check 2: mideleg without 2, mie with 12
     taken (waiting 0 1 0x80 0x440 0 0 0 0) gives 102 ∷
     taken (waiting 0 1 0x1000 0x444 0 0 0 0) gives 102 ∷
-    -- the word with 22 in M, all 32 bits of it with 22 in HS, and with 2 in VS; it is the value alone, and an environment call has none
-    reg waited mtval gives 0x10500073 ∷
-    reg waited mtinst gives 0 ∷
-    reg waited mtval2 gives 0 ∷
-    reg (ecall waited .hart) mtval gives 0 ∷
+    -- the word with 22 in M, all 32 bits of it with 22 in HS, and with 2 in VS
+    reg (wfi (in-mode 1 0 []) 0x10500073 .hart) mtval gives 0x10500073 ∷
     reg (read (in-mode 1 1 (medeleg ↢ 0x400000 ∷ [])) 0x600 0xFFFFFFFF .hart) stval gives 0xFFFFFFFF ∷
     reg (mret (in-mode 1 1 (medeleg ↢ 4 ∷ hedeleg ↢ 4 ∷ [])) 0x30200073 .hart) vstval gives 0x30200073 ∷ []
 

@@ -1,14 +1,17 @@
 -- Every event of the hart but translation, so that a theorem can speak of any of them.
-use mathlib.Core.Bool.{Bool}
+use mathlib.Core.Bool.{Bool, false}
 use Prim.Native.Nat.{ℕ}
 use lib.Dec.{eqb}
 use Rattle.bits.specs.Field.{pick}
-use Rattle.registers.specs.Places.{scause, stval, vscause, vstval, mcause, mtval}
+use Rattle.registers.specs.Fields.{GVA, HGVA}
+use Rattle.registers.specs.Places.{scause, stval, vscause, vstval, mstatus, mcause, mtval, mtinst, mtval2, hstatus, htval, htinst}
+use Rattle.privilege.specs.Mode.{isSet}
 use Rattle.exceptions.specs.declared.Exception.{Exception}
 use Rattle.hart.specs.declared.state.Hart.{Hart}
 use Rattle.hart.specs.declared.event.Step.{Step}
 use Rattle.csr.specs.declared.Form.{Form}
 use Rattle.hart.specs.declared.access.Accessed.{Accessed}
+use Rattle.hart.specs.Hart.{reg}
 use Rattle.hart.specs.Event.{step}
 use Rattle.hart.specs.Trap as traps
 use Rattle.hart.specs.Interrupt as interrupts
@@ -48,9 +51,13 @@ run ecall h = traps.ecall h
 run ebreak h = traps.ebreak h
 run interrupt h = interrupts.interrupt h
 
--- where the level that a hart is at keeps what it is told of a trap: M in mcause and mtval, HS in scause and stval, VS in vscause and vstval
-abbrev pub causePlace : Hart → ℕ
-causePlace h = pick (eqb (h .v) 1) vscause (pick (eqb (h .privilege) 3) mcause scause)
+-- what the level that a hart is at was told of a trap: VS its cause and value alone
+abbrev pub told : Hart → Exception
+told h =
+    pick (eqb (h .v) 1) (record { cause = reg h vscause; value = reg h vstval; value2 = 0; word = 0; flag = false })
+    (pick (eqb (h .privilege) 3) (record { cause = reg h mcause; value = reg h mtval; value2 = reg h mtval2; word = reg h mtinst; flag = isSet GVA (reg h mstatus) })
+    (record { cause = reg h scause; value = reg h stval; value2 = reg h htval; word = reg h htinst; flag = isSet HGVA (reg h hstatus) }))
 
+-- where it keeps the value
 abbrev pub valuePlace : Hart → ℕ
 valuePlace h = pick (eqb (h .v) 1) vstval (pick (eqb (h .privilege) 3) mtval stval)
