@@ -42,7 +42,7 @@ a gives k = record { answer = a; expected = k }
 
 -- an instruction word that is not asked for
 abbrev pub any-word : ℕ
-any-word = 0
+any-word = 0xFFFFFFFF
 
 -- all ones written to a register of a reset hart in M, and read back
 abbrev pub all-ones : ℕ → ℕ

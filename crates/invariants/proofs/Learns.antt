@@ -66,7 +66,7 @@ use Rattle.invariants.specs.Events.{Event, stepOf, run}
 use Rattle.invariants.specs.Events as events
 use Rattle.invariants.specs.Learns.{guest, shared, SameHanded, Runs, Alike, Undisturbed, Same, SameTables, SameTranslated}
 use Rattle.invariants.proofs.Mode.{passing}
-use Rattle.invariants.proofs.Writes.{allIn, outside-kept, lands, with-alike}
+use Rattle.invariants.proofs.Writes.{allIn, outside-kept, lands, with-lands}
 use Rattle.invariants.proofs.Settled.{settled-cases}
 use Rattle.invariants.proofs.Comes.{Allowed, reaches}
 use Rattle.invariants.proofs.Guest.{Own, Lent, reached-guest, lent-gate}
@@ -130,7 +130,7 @@ module _ (h h′ : Hart) (a : Alike h h′) where
   into-host ws ws′ t t′ p g = outside-kept host ws (h .regs) t p (ap not g) ∙ a .guest p g ∙ sym (outside-kept host ws′ (h′ .regs) t′ p (ap not g))
 
   into-guest : (ws ws′ : List Write) → ws ≡ ws′ → allIn (λ q. ltb q kept) ws ≡ true → (p : ℕ) → guest p ≡ true → getD (h .regs with ws) p 0 ≡ getD (h′ .regs with ws′) p 0
-  into-guest ws ws′ e t p g = rw (← e) (with-alike ws ws (h .regs) (h′ .regs) p (a .left .size) (a .right .size) t t (ap (lands ws p) (a .guest p g)))
+  into-guest ws ws′ e t p g = rw (← e) (with-lands ws (h .regs) p (a .left .size) t ∙ ap (lands ws p) (a .guest p g) ∙ sym (with-lands ws (h′ .regs) p (a .right .size) t))
 
   -- the registers of interrupts are not written
   stay-handed : (ws ws′ : List Write) → allIn aside ws ≡ true → allIn aside ws′ ≡ true → SameHanded (h .regs with ws) (h′ .regs with ws′)

@@ -10,4 +10,5 @@ pub mod Guest
 pub mod Learns
 pub mod Known
 pub mod Worked
+pub mod Told
 pub mod Word

@@ -48,11 +48,6 @@ with-lands (w ∷ ws) rs p l t =
     split (ltb (w .place) kept) (allIn (λ q. ltb q kept) ws) t (λ b more.
     with-lands ws (set rs (w .place) (w .value)) p (length-set rs _ _ ∙ l) more ∙ ap (lands ws p) (set-lands rs (w .place) (w .value) p (rw l (ltb-true _ _ b))))
 
--- two lists of writes leave the same at a place
-pub with-alike : (ws ws′ : List Write) (rs rs′ : List ℕ) (p : ℕ) → length rs ≡ kept → length rs′ ≡ kept → allIn (λ q. ltb q kept) ws ≡ true → allIn (λ q. ltb q kept) ws′ ≡ true
-    → lands ws p (getD rs p 0) ≡ lands ws′ p (getD rs′ p 0) → getD (rs with ws) p 0 ≡ getD (rs′ with ws′) p 0
-with-alike ws ws′ rs rs′ p l l′ t t′ e = with-lands ws rs p l t ∙ e ∙ sym (with-lands ws′ rs′ p l′ t′)
-
 pub length-with : (ws : List Write) (rs : List ℕ) → length (rs with ws) ≡ length rs
 length-with [] rs = refl
 length-with (w ∷ ws) rs = length-with ws (set rs (w .place) (w .value)) ∙ length-set rs (w .place) (w .value)

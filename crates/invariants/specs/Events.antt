@@ -34,6 +34,7 @@ pub data Event : Type 0 where
 abbrev pub stepOf : Accessed → Step
 stepOf a = step (a .hart) (a .outcome)
 
+-- what an instruction with a word comes to
 abbrev pub executed : Instruction → Hart → (word : ℕ) → Step
 executed mret h word = returns.mret h word
 executed sret h word = returns.sret h word
@@ -51,13 +52,14 @@ run ecall h = traps.ecall h
 run ebreak h = traps.ebreak h
 run interrupt h = interrupts.interrupt h
 
--- what the level that a hart is at was told of a trap: VS its cause and value alone
+-- What the level that a hart is at was told of a trap: "vscause, vstval" in VS; "GVA, .. mcause, mtval, mtval2, mtinst" in M;
+-- "hstatus.GVA, .. scause, stval, htval, htinst" in HS.
 abbrev pub told : Hart → Exception
 told h =
     pick (eqb (h .v) 1) (record { cause = reg h vscause; value = reg h vstval; value2 = 0; word = 0; flag = false })
     (pick (eqb (h .privilege) 3) (record { cause = reg h mcause; value = reg h mtval; value2 = reg h mtval2; word = reg h mtinst; flag = isSet GVA (reg h mstatus) })
     (record { cause = reg h scause; value = reg h stval; value2 = reg h htval; word = reg h htinst; flag = isSet HGVA (reg h hstatus) }))
 
--- where it keeps the value
+-- where it keeps the trap's value: "(mtval, stval, vstval)"
 abbrev pub valuePlace : Hart → ℕ
 valuePlace h = pick (eqb (h .v) 1) vstval (pick (eqb (h .privilege) 3) mtval stval)

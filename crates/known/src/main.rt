@@ -169,7 +169,8 @@ fn request(cause: u64, value: u64) -> Exception {
     plain(cause, 0)
 }
 
-// The instruction's word: CSRRS from x0, CSRRW, CSRRS and CSRRC from x11, all to x10; fences of all addresses.
+// The instruction's word: CSRRS from x0, CSRRW, CSRRS and CSRRC from x11, all to x10; fences of all addresses. Events that have
+// none are not given it.
 fn word(event: u64, n: u64) -> u32 {
     let register = ((n % 0x1000) as u32) << 20;
     match event {

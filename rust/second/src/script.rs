@@ -700,4 +700,4 @@ fn run_line<W: Write>(
 
 #[cfg(test)]
 #[path = "script_tests.rs"]
-mod tests;
+pub(crate) mod tests;

@@ -320,8 +320,8 @@ fn answers() {
     assert_eq!(good("read fff 0\nread 1000 0"), "value 0\nrefused 5\n");
 }
 
-/// The lines that have a WORD, without it.
-const WITH_WORD: [&str; 12] = [
+/// A line of each event that has a WORD, without it.
+pub const WITH_WORD: [&str; 12] = [
     "read 300",
     "write 300 0",
     "set 300 0 0",

@@ -3,6 +3,7 @@
 use super::*;
 use crate::registers::ROWS;
 use crate::script::parse;
+use crate::script::tests::WITH_WORD;
 
 /// What is said about the word of a line.
 fn said(line: &str) -> String {
@@ -26,25 +27,11 @@ fn check(word: u32, instruction: &str, fitting: &[&str], others: &[&str]) {
 const OTHER_SYSTEM: &str = "a SYSTEM instruction that the model has no event for";
 const NO_SYSTEM: &str = "no SYSTEM instruction";
 
-/// A line of each event that has a word, without it.
-const EVENTS: [&str; 12] = [
-    "read 300",
-    "write 300 0",
-    "set 300 0 0",
-    "set 300 0 1",
-    "clear 300 0 0",
-    "clear 300 0 1",
-    "mret",
-    "sret",
-    "wfi",
-    "sfence.vma",
-    "hfence.vvma",
-    "hfence.gvma",
-];
-
 /// A word that fits these of the events and no other.
 fn fits_alone(word: u32, instruction: &str, fitting: &[&str]) {
-    let others = EVENTS.into_iter().filter(|event| !fitting.contains(event));
+    let others = WITH_WORD
+        .into_iter()
+        .filter(|event| !fitting.contains(event));
     check(word, instruction, fitting, &others.collect::<Vec<_>>());
 }
 
@@ -231,7 +218,7 @@ fn accesses_by_bits_14_to_12() {
         for (s, expected) in [(0, with_0), (5, with_5)] {
             let word = 0x3000_0073 | function << 12 | s << 15;
             let fits = |event: &&str| !said(&format!("{event} {word:x}")).contains("not fit");
-            let fitting: Vec<&str> = EVENTS.into_iter().filter(fits).collect();
+            let fitting: Vec<&str> = WITH_WORD.into_iter().filter(fits).collect();
             assert_eq!(fitting, expected, "{word:x}");
         }
     }
