@@ -1,6 +1,8 @@
 // An access: what it asks of each stage, and its faults.
 ghost use mathlib.Core.Path.{_≡_};
+ghost use mathlib.Core.Bool.{true};
 ghost use Rattle.rules.specs.Kind.{by};
+ghost use Rattle.access.specs.Widths.{known, misaligned};
 ghost use Rattle.access.specs.Needs.{rightOf, needOf, firstNeed, secondNeed, entryNeed};
 ghost use Rattle.access.specs.Faults.{raised, misalignment, accessFault, pageFault, guestPageFault, entryFault};
 use exceptions::Exception;
@@ -20,10 +22,12 @@ pub struct Root {
     pub ppn: u64,
 }
 
-// An access, with what the walk takes from the hart: the effective V, whether the effective mode is a user mode, SUM, the MXR that
-// counts at the first stage (mxr) and at the second (mmxr, mstatus's), and each stage's tables.
+// An access: its kind, which faults and U go by, and the right that it needs; with what the walk takes from the hart: the effective V, whether
+// the effective mode is a user mode, SUM, the MXR that counts at the first stage (mxr) and at the second (mmxr, mstatus's), and each stage's
+// tables.
 pub struct Access {
     pub kind: Kind,
+    pub right: Right,
     pub address: u64,
     pub width: u64,
     pub v: bool,
@@ -33,6 +37,22 @@ pub struct Access {
     pub mmxr: bool,
     pub first: Root,
     pub second: Root,
+}
+
+// Whether an access can have so many bytes.
+pub fn is_known(width: u64) -> bool
+    ensures { λ r. ⌜ r ≡ known width ⌝ }
+{
+    (width == 1) | (width == 2) | (width == 4) | (width == 8)
+}
+
+// Whether a load or store of a known width is misaligned. A known width is a power of two: its remainder is the bits below it.
+pub fn is_misaligned(kind: Kind, address: u64, width: u64) -> bool
+    requires { ⌜ known width ≡ true ⌝ }
+    ensures { λ r. ⌜ r ≡ misaligned kind address width ⌝ }
+{
+    let t = address & (width - 1) != 0;
+    kind.test(false, t, t)
 }
 
 // The cause that is a kind's own.
@@ -47,7 +67,7 @@ fn cause(kind: Kind, fetch: u64, load: u64, store: u64) -> u64
 }
 
 // The right that is a kind's own.
-fn right(kind: Kind) -> Right
+pub fn right(kind: Kind) -> Right
     ensures { λ r. ⌜ r ≡ rightOf kind ⌝ }
 {
     match kind {
@@ -58,11 +78,11 @@ fn right(kind: Kind) -> Right
 }
 
 // What a kind of access asks of a leaf.
-fn need(kind: Kind, user: bool, sum: bool, mxr: bool) -> Need
-    ensures { λ r. ⌜ r ≡ needOf kind user sum mxr ⌝ }
+fn need(kind: Kind, right: Right, user: bool, sum: bool, mxr: bool) -> Need
+    ensures { λ r. ⌜ r ≡ needOf kind right user sum mxr ⌝ }
 {
     Need {
-        right: right(kind),
+        right: right,
         fetch: kind.test(true, false, false),
         user: user,
         sum: sum,
@@ -128,7 +148,8 @@ impl Access {
         ensures { λ r. ⌜ r ≡ firstNeed self ⌝ }
     {
         let kind = self.kind;
-        need(kind, self.user, self.sum, self.mxr)
+        let right = self.right;
+        need(kind, right, self.user, self.sum, self.mxr)
     }
 
     // What the access asks of the second stage.
@@ -136,7 +157,8 @@ impl Access {
         ensures { λ r. ⌜ r ≡ secondNeed self ⌝ }
     {
         let kind = self.kind;
-        need(kind, true, false, self.mmxr)
+        let right = self.right;
+        need(kind, right, true, false, self.mmxr)
     }
 }
 
@@ -144,5 +166,5 @@ impl Access {
 pub fn entry_need() -> Need
     ensures { λ r. ⌜ r ≡ entryNeed ⌝ }
 {
-    need(Kind::Load, true, false, false)
+    need(Kind::Load, Right::Read, true, false, false)
 }

@@ -1,12 +1,20 @@
-// What an access takes from the hart: its effective mode, the stages that are on, and the bits that count.
+// What an access takes from the hart: the mode it is made in, the stages that are on, and the bits that count.
 ghost use mathlib.Core.Path.{_≡_};
-ghost use Rattle.effective.specs.Effective.{effective, root, off, firstRoot, secondRoot, inMode, accessOf};
+ghost use Rattle.effective.specs.Effective.{effective, guestMode, root, off, firstRoot, secondRoot, inMode, plainAccess, guestAccess};
 use access::Access;
 use access::Root;
-use hart::state::Hart;
+use privilege::Context;
 use registers::fields;
-use registers::places;
 use rules::Kind;
+use rules::Right;
+
+// The registers that an access goes by, beside those of the context.
+pub struct Paging {
+    pub vsstatus: u64,
+    pub satp: u64,
+    pub vsatp: u64,
+    pub hgatp: u64,
+}
 
 // The mode that an access is made in.
 pub struct EffectiveMode {
@@ -14,12 +22,12 @@ pub struct EffectiveMode {
     pub privilege: u64,
 }
 
-fn effective_mode(h: Hart, kind: Kind) -> EffectiveMode
-    ensures { λ r. ⌜ r ≡ effective h kind ⌝ }
+fn effective_mode(c: Context, kind: Kind) -> EffectiveMode
+    ensures { λ r. ⌜ r ≡ effective c kind ⌝ }
 {
-    let status = h.regs[places::MSTATUS];
+    let status = c.mstatus;
     let data = kind.test(false, true, true);
-    if h.context().is_m() & (fields::MPRV.get(status) == 1) & data {
+    if c.is_m() & (fields::MPRV.get(status) == 1) & data {
         let mpp = fields::MPP.get(status);
         return EffectiveMode {
             v: !(mpp == 3) & (fields::MPV.get(status) == 1),
@@ -27,8 +35,18 @@ fn effective_mode(h: Hart, kind: Kind) -> EffectiveMode
         };
     }
     EffectiveMode {
-        v: h.v == 1,
-        privilege: h.privilege,
+        v: c.v == 1,
+        privilege: c.privilege,
+    }
+}
+
+// The mode of an access made for the guest.
+fn guest_mode(c: Context) -> EffectiveMode
+    ensures { λ r. ⌜ r ≡ guestMode c ⌝ }
+{
+    EffectiveMode {
+        v: true,
+        privilege: fields::SPVP.get(c.hstatus),
     }
 }
 
@@ -52,36 +70,45 @@ fn tables(x: u64) -> Root
     }
 }
 
-fn first(h: Hart, m: EffectiveMode) -> Root
-    ensures { λ r. ⌜ r ≡ firstRoot h m ⌝ }
+fn first(p: Paging, m: EffectiveMode) -> Root
+    ensures { λ r. ⌜ r ≡ firstRoot p m ⌝ }
 {
     if m.v {
-        return tables(h.regs[places::VSATP]);
+        return tables(p.vsatp);
     }
     if m.privilege == 3 {
         return off();
     }
-    tables(h.regs[places::SATP])
+    tables(p.satp)
 }
 
-fn second(h: Hart, m: EffectiveMode) -> Root
-    ensures { λ r. ⌜ r ≡ secondRoot h m ⌝ }
+fn second(p: Paging, m: EffectiveMode) -> Root
+    ensures { λ r. ⌜ r ≡ secondRoot p m ⌝ }
 {
     if m.v {
-        return tables(h.regs[places::HGATP]);
+        return tables(p.hgatp);
     }
     off()
 }
 
 // The access in a mode.
-fn in_mode(h: Hart, m: EffectiveMode, kind: Kind, address: u64, width: u64) -> Access
-    ensures { λ r. ⌜ r ≡ inMode h m kind address width ⌝ }
+fn in_mode(
+    c: Context,
+    p: Paging,
+    m: EffectiveMode,
+    kind: Kind,
+    right: Right,
+    address: u64,
+    width: u64,
+) -> Access
+    ensures { λ r. ⌜ r ≡ inMode c p m kind right address width ⌝ }
 {
-    let status = h.regs[places::MSTATUS];
-    let own = bits::select(m.v, h.regs[places::VSSTATUS], status);
+    let status = c.mstatus;
+    let own = bits::select(m.v, p.vsstatus, status);
     let mmxr = fields::MXR.get(status) == 1;
     Access {
         kind: kind,
+        right: right,
         address: address,
         width: width,
         v: m.v,
@@ -89,14 +116,36 @@ fn in_mode(h: Hart, m: EffectiveMode, kind: Kind, address: u64, width: u64) -> A
         sum: fields::SUM.get(own) == 1,
         mxr: (fields::MXR.get(own) == 1) | mmxr,
         mmxr: mmxr,
-        first: first(h, m),
-        second: second(h, m),
+        first: first(p, m),
+        second: second(p, m),
     }
 }
 
-// The access as a hart makes it.
-pub fn access(h: Hart, kind: Kind, address: u64, width: u64) -> Access
-    ensures { λ r. ⌜ r ≡ accessOf h kind address width ⌝ }
+// The access as the hart itself makes it.
+pub fn access(c: Context, p: Paging, kind: Kind, address: u64, width: u64) -> Access
+    ensures { λ r. ⌜ r ≡ plainAccess c p kind address width ⌝ }
 {
-    in_mode(h, effective_mode(h, kind), kind, address, width)
+    in_mode(
+        c,
+        p,
+        effective_mode(c, kind),
+        kind,
+        access::right(kind),
+        address,
+        width,
+    )
+}
+
+// The access as the hart makes it for its guest.
+pub fn guest_access(
+    c: Context,
+    p: Paging,
+    kind: Kind,
+    right: Right,
+    address: u64,
+    width: u64,
+) -> Access
+    ensures { λ r. ⌜ r ≡ guestAccess c p kind right address width ⌝ }
+{
+    in_mode(c, p, guest_mode(c), kind, right, address, width)
 }

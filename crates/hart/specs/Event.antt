@@ -1,5 +1,5 @@
 -- What an event comes to, and the order in which it is settled (document 01, "When the model says no").
-use mathlib.Core.Bool.{true, false, not}
+use mathlib.Core.Bool.{Bool, true, false, not}
 use Prim.Native.Nat.{ℕ, _+_, _%_, _^_}
 use lib.Dec.{eqb}
 use Rattle.bits.specs.Field.{pick}
@@ -20,6 +20,13 @@ refusal Done = 0
 refusal (Trapped cause) = 0
 refusal (Refused number) = number
 refusal (Interrupted number) = 0
+
+-- neither trapped nor refused, nor an interrupt
+abbrev pub isDone : Outcome → Bool
+isDone Done = true
+isDone (Trapped cause) = false
+isDone (Refused number) = false
+isDone (Interrupted number) = false
 
 abbrev pub step : Hart → Outcome → Step
 step h o = record { hart = h; outcome = o }

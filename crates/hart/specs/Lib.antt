@@ -6,3 +6,4 @@ pub mod Interrupt
 pub mod Return
 pub mod Wait
 pub mod Access
+pub mod Guest

@@ -1,7 +1,7 @@
 // What an event comes to, and the order in which it is settled.
 ghost use mathlib.Core.Path.{_≡_};
 ghost use Rattle.bits.specs.Field.{pick};
-ghost use Rattle.hart.specs.Event.{refused, trapped, plain, raised, stopOf, moved};
+ghost use Rattle.hart.specs.Event.{isDone, refused, trapped, plain, raised, stopOf, moved};
 use crate::state::Hart;
 use exceptions::Exception;
 use privilege::Verdict;
@@ -44,6 +44,19 @@ pub fn plain(cause: u64, value: u64) -> Exception
         value2: 0,
         word: 0,
         flag: false,
+    }
+}
+
+impl Outcome {
+    pub fn is_done(self) -> bool
+        ensures { λ r. ⌜ r ≡ isDone self ⌝ }
+    {
+        match self {
+            Outcome::Done => true,
+            Outcome::Trapped(_) => false,
+            Outcome::Refused(_) => false,
+            Outcome::Interrupted(_) => false,
+        }
     }
 }
 

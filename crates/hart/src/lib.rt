@@ -1,7 +1,8 @@
 // The hart, and its events as methods: each hands the next hart back.
-pub mod access;
+pub mod accesses;
 pub mod deliver;
 pub mod event;
+pub mod guest;
 pub mod interrupt;
 pub mod returns;
 pub mod state;

@@ -1,6 +1,7 @@
 // What a hart holds, and check 2.
 ghost use mathlib.Core.Path.{_≡_};
-ghost use Rattle.hart.specs.Hart.{reset, context, lines, passes};
+ghost use Rattle.hart.specs.Hart.{reset, context, lines, paging, passes};
+use effective::Paging;
 use interrupts::Lines;
 use privilege::Context;
 use registers::file;
@@ -49,6 +50,18 @@ impl Hart {
             mideleg: self.regs[places::MIDELEG],
             hideleg: self.regs[places::HIDELEG],
             vsstatus: self.regs[places::VSSTATUS],
+        }
+    }
+
+    // What an access goes by beside.
+    pub fn paging(self) -> Paging
+        ensures { λ r. ⌜ r ≡ paging self ⌝ }
+    {
+        Paging {
+            vsstatus: self.regs[places::VSSTATUS],
+            satp: self.regs[places::SATP],
+            vsatp: self.regs[places::VSATP],
+            hgatp: self.regs[places::HGATP],
         }
     }
 

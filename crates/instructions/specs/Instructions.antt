@@ -1,8 +1,8 @@
--- What MRET, SRET, WFI and the fences give (document 01, "Traps and returns").
+-- What MRET, SRET, WFI, the fences (document 01, "Traps and returns") and the hypervisor loads and stores (2026-03) give.
 use mathlib.Core.Bool.{Bool, false, _&&_, _||_, not}
 use lib.Dec.{eqb}
 use Rattle.bits.specs.declared.Field.{Field}
-use Rattle.registers.specs.Fields.{TVM, TW, TSR, VTVM, VTW, VTSR}
+use Rattle.registers.specs.Fields.{TVM, TW, TSR, HU, VTVM, VTW, VTSR}
 use Rattle.privilege.specs.declared.Context.{Context}
 use Rattle.privilege.specs.declared.Verdict.{Verdict}
 use Rattle.privilege.specs.Mode.{isU, isHS, isM, isVU, isVS, isSet, gives}
@@ -38,3 +38,7 @@ hfenceVvma c = gives (isU c) (eqb (c .v) 1)
 -- HFENCE.GVMA: U 2; in HS with TVM=1 2; V=1 always 22
 abbrev pub hfenceGvma : Context → Verdict
 hfenceGvma c = gives (illegalWith TVM c) (eqb (c .v) 1)
+
+-- HLV, HLVX and HSV: "V=1 gives 22; U with HU=0 gives 2"
+abbrev pub hypervisorAccess : Context → Verdict
+hypervisorAccess c = gives (isU c && not (isSet HU (c .hstatus))) (eqb (c .v) 1)

@@ -1,10 +1,11 @@
-// What MRET, SRET, WFI and the fences give.
+// What MRET, SRET, WFI, the fences and the hypervisor loads and stores give.
 ghost use mathlib.Core.Path.{_≡_};
 ghost use Rattle.bits.specs.Field.{Fits};
-ghost use Rattle.instructions.specs.Instructions.{illegalWith, virtualWith, mret, sret, wfi, sfenceVma, hfenceVvma, hfenceGvma};
+ghost use Rattle.instructions.specs.Instructions.{illegalWith, virtualWith, mret, sret, wfi, sfenceVma, hfenceVvma, hfenceGvma, hypervisorAccess};
 use bits::Field;
 use privilege::Context;
 use privilege::Verdict;
+use registers::fields::HU;
 use registers::fields::TSR;
 use registers::fields::TVM;
 use registers::fields::TW;
@@ -81,5 +82,15 @@ pub fn hfence_gvma(c: Context) -> Verdict
     Verdict {
         gives2: illegal,
         gives22: guest,
+    }
+}
+
+pub fn hypervisor_access(c: Context) -> Verdict
+    ensures { λ r. ⌜ r ≡ hypervisorAccess c ⌝ }
+{
+    let illegal = c.is_u() & !(HU.get(c.hstatus) == 1);
+    Verdict {
+        gives2: illegal,
+        gives22: c.v == 1,
     }
 }

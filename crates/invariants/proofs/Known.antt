@@ -14,7 +14,7 @@ use Rattle.table.specs.Table.{firstAt}
 use Rattle.hart.specs.declared.state.Hart.{Hart}
 use Rattle.hart.specs.declared.event.Outcome.{Outcome}
 use Rattle.hart.specs.declared.event.Outcome.the-variants.{Done, Trapped, Refused, Interrupted}
-use Rattle.hart.specs.declared.access.Accessed.{Accessed}
+use Rattle.hart.specs.declared.accesses.Accessed.{Accessed}
 use Rattle.registers.specs.File.{_↢_, _with_, registersPass}
 use Rattle.hart.specs.Hart.{reg, reset, passes}
 use Rattle.hart.specs.Deliver.{deliveredM, deliveredHS, deliveredVS, delivered}

@@ -47,7 +47,7 @@ use Rattle.hart.specs.declared.state.Hart.{Hart}
 use Rattle.hart.specs.declared.event.Outcome.{Outcome}
 use Rattle.hart.specs.declared.event.Outcome.the-variants.{Done, Trapped, Refused, Interrupted}
 use Rattle.hart.specs.declared.event.Step.{Step}
-use Rattle.hart.specs.declared.access.Accessed.{Accessed}
+use Rattle.hart.specs.declared.accesses.Accessed.{Accessed}
 use Rattle.hart.specs.Hart.{reg, context, lines}
 use Rattle.hart.specs.Deliver.{writesM, writesHS, writesVS, deliveredM, deliveredHS, deliveredVS, deliveredTo, delivered}
 use Rattle.hart.specs.Event.{step, trapped, plain, done, refuses, raises, settledBy, settled, moved, next}

@@ -10,7 +10,7 @@ use Rattle.exceptions.specs.declared.Exception.{Exception}
 use Rattle.hart.specs.declared.state.Hart.{Hart}
 use Rattle.hart.specs.declared.event.Step.{Step}
 use Rattle.csr.specs.declared.Form.{Form}
-use Rattle.hart.specs.declared.access.Accessed.{Accessed}
+use Rattle.hart.specs.declared.accesses.Accessed.{Accessed}
 use Rattle.hart.specs.Hart.{reg}
 use Rattle.hart.specs.Event.{step}
 use Rattle.hart.specs.Trap as traps

@@ -9,7 +9,7 @@ use Rattle.hart.specs.declared.state.Hart.{Hart}
 use Rattle.hart.specs.declared.event.Outcome.{Outcome}
 use Rattle.hart.specs.declared.event.Outcome.the-variants.{Done, Trapped, Refused, Interrupted}
 use Rattle.hart.specs.declared.event.Step.{Step}
-use Rattle.hart.specs.declared.access.Accessed.{Accessed}
+use Rattle.hart.specs.declared.accesses.Accessed.{Accessed}
 
 -- A hart: V, privilege, pc, then the registers that it keeps, each at its place.
 abbrev pub hart-size : ℕ

@@ -2,7 +2,7 @@
 ghost use mathlib.Core.Path.{_≡_};
 ghost use Rattle.layout.specs.Layout.{hart-size, words, hartOf, outcomeWords, step-size, stepWords, access-size, accessWords};
 ghost use Rattle.layout.specs.Taken.{put};
-use hart::access::Accessed;
+use hart::accesses::Accessed;
 use hart::event::Outcome;
 use hart::event::Step;
 use hart::state::Hart;

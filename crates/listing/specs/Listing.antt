@@ -1,8 +1,10 @@
--- The word layout of a translation: its answer and its list of reads.
+-- The word layout of what has a list of reads: a translation, and a hypervisor load or store.
 use mathlib.Core.List.{List, _∷_, _++_}
 use Prim.Native.Nat.{ℕ, _+_, _-_, _*_}
 use lib.ListN.{length, replicate}
 use Rattle.stages.specs.Listed.{places, readWords}
+use Rattle.hart.specs.declared.guest.Performed.{Performed}
+use Rattle.layout.specs.Layout.{access-size, accessWords}
 use Rattle.translate.specs.declared.Answer.{Answer}
 use Rattle.translate.specs.declared.Translated.{Translated}
 use Rattle.translate.specs.Translated.{values}
@@ -27,3 +29,10 @@ translation-size = list-at + 4 * places
 
 unfoldable pub translationWords : Translated → List ℕ
 translationWords t = answerWords (t .answer) ++ (t .count ∷ readWords (t .reads))
+
+-- A hypervisor load's or store's result: as a register access's (the next hart, what it came to, the value answered), then the count and the list.
+abbrev pub performed-size : ℕ
+performed-size = access-size + (1 + 4 * places)
+
+unfoldable pub performedWords : Performed → List ℕ
+performedWords p = accessWords (record { hart = p .hart; outcome = p .outcome; value = p .value }) ++ (p .count ∷ readWords (p .reads))

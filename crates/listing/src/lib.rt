@@ -1,4 +1,6 @@
 // The word layout of a translation: the kind of access by number, and the result written into a slice.
+pub mod guest;
+
 ghost use mathlib.Core.Path.{_≡_};
 ghost use mathlib.Core.List.{[], _∷_, _++_};
 ghost use lib.ListN.{length, drop};

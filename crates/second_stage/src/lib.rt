@@ -34,7 +34,7 @@ pub enum Seen {
 }
 
 // One read's words, from an index on.
-fn put(out: &mut [u64], next: usize, stage: u64, level: u64, at: u64, e: u64)
+pub fn put(out: &mut [u64], next: usize, stage: u64, level: u64, at: u64, e: u64)
     requires { ⌜ next + 4 ≤ length (now out) ⌝ }
     ensures { λ _. ⌜ now (out .exit) ≡ stored (now (out .entry)) next stage level at e ⌝ }
 {

@@ -330,7 +330,7 @@ module _ (a : Access) where
 
 module _ (look : Machine → Entry) (base len : ℕ) (a : Access) (on : 0 < a .second .levels) (k : ℕ) (small : k ≤ 12) (aligned : a .address % 2 ^ k ≡ 0) where
   abbrev own : ℕ → Bool
-  own = ownRight (a .kind) (a .mmxr)
+  own = ownRight (a .right) (a .mmxr)
 
   -- the access itself: only second-stage items, and an answer was let through
   record Final (g : Guest) (xs : List Read) (o : Result Machine) : Type 0 where
@@ -362,7 +362,7 @@ module _ (look : Machine → Entry) (base len : ℕ) (a : Access) (on : 0 < a .s
   -- first stage's result and what let it through.
   pub record Guarded (xs : List Read) (o : Result Machine) : Type 0 where
     pub entries : (earlier : List Read) (x : Read) (later : List Read) → x .stage ≡ 1 → xs ≡ earlier ++ (x ∷ later) → GuestEntry (a .first) (a .second) (a .address) (a .first .levels - 1) (a .first .ppn * 4096) earlier x
-    pub answer : (m : Machine) → o ≡ yields m → AnsweredThrough (a .first) (a .second) (ownRight (a .kind) (a .mmxr)) (a .address) xs m (2 ^ k)
+    pub answer : (m : Machine) → o ≡ yields m → AnsweredThrough (a .first) (a .second) (ownRight (a .right) (a .mmxr)) (a .address) xs m (2 ^ k)
 
   abbrev firstWalk : Walk (Result Guest)
   firstWalk = translation (first-of a)

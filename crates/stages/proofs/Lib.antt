@@ -1,5 +1,6 @@
 pub mod Trees
 pub mod Runs
+pub mod Ends
 pub mod Bounds
 pub mod Images
 pub mod Offsets

@@ -7,8 +7,8 @@ use lib.Dec.{eqb}
 use borrow.Author.Tests.{eqb-true, eqb-false, not-false}
 use Rattle.bits.specs.Field.{span, get, has}
 use Rattle.bits.proofs.Bools.{and-left, and-right, both, or-left, or-right}
-use Rattle.rules.specs.declared.Kind.{Kind}
-use Rattle.rules.specs.declared.Kind.the-variants.{Fetch, Load, Store}
+use Rattle.rules.specs.declared.Right.{Right}
+use Rattle.rules.specs.declared.Right.the-variants.{Read, Write, Execute}
 use Rattle.rules.specs.declared.Need.{Need}
 use Rattle.rules.specs.Entry.{«V», R, W, X, U, A, D, lowPPN, pointer, admitted, granted, malformed, badPointer, badLeaf, faulty}
 use Rattle.rules.proofs.Judgements.{leaf-right}
@@ -73,14 +73,14 @@ module _ (n : Need) (level e : ℕ) (good : faulty n level e ≡ false) where
     grant = and-right (admitted n e) (granted n e) rights
 
 -- an access's own right at the second stage
-pub own-right : (a : Access) (level e : ℕ) → faulty (secondNeed a) level e ≡ false → pointer e ≡ false → ownRight (a .kind) (a .mmxr) e ≡ true
+pub own-right : (a : Access) (level e : ℕ) → faulty (secondNeed a) level e ≡ false → pointer e ≡ false → ownRight (a .right) (a .mmxr) e ≡ true
 unfolding badLeaf
-own-right a level e good p = go (a .kind) refl
+own-right a level e good p = go (a .right) refl
   where
-    go : (k : Kind) → a .kind ≡ k → ownRight k (a .mmxr) e ≡ true
-    go Fetch q = rw q at (grant (secondNeed a) level e good p)
-    go Load q = rw q at (grant (secondNeed a) level e good p)
-    go Store q =
+    go : (r : Right) → a .right ≡ r → ownRight r (a .mmxr) e ≡ true
+    go Execute q = rw q at (grant (secondNeed a) level e good p)
+    go Read q = rw q at (grant (secondNeed a) level e good p)
+    go Write q =
         let dirty = or-right (not (eqb (get (lowPPN level) e) 0) || not (has A e)) _ (or-left _ (not (admitted (secondNeed a) e && granted (secondNeed a) e)) (good-leaf (secondNeed a) level e good p)) in
         both (has W e) (has D e) (rw q at (grant (secondNeed a) level e good p)) (not-false (has D e) (rw q at dirty))
 

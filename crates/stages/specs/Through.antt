@@ -6,8 +6,8 @@ use Prim.Native.Nat.{ℕ, suc, _+_, _-_, _*_, _%_, _^_, _<_, _≤_}
 use Rattle.bits.specs.Field.{span, get, has}
 use Rattle.image.specs.declared.Entry.{Entry}
 use Rattle.image.specs.declared.Entry.the-variants.{Value}
-use Rattle.rules.specs.declared.Kind.{Kind}
-use Rattle.rules.specs.Kind.{by}
+use Rattle.rules.specs.declared.Right.{Right}
+use Rattle.rules.specs.Right.{byRight}
 use Rattle.rules.specs.Address.{Stage, first, second, number, index}
 use Rattle.rules.specs.Entry.{«V», R, W, X, U, A, D, lowPPN, pointer, target}
 use Rattle.access.specs.declared.Guest.{Guest}
@@ -59,9 +59,9 @@ pub record Passes (right : ℕ → Bool) (level e : ℕ) : Type 0 where
   pub user : has U e ≡ true
   pub granted : right e ≡ true
 
--- "the access's own" right, in a leaf's bits: fetch X; load R, or X with MXR; store W and D
-abbrev pub ownRight : Kind → (mxr : Bool) → ℕ → Bool
-ownRight kind mxr e = by kind (has X e) (has R e || (has X e && mxr)) (has W e && has D e)
+-- "the access's own" right, in a leaf's bits: to read R, or X with MXR; to write W and D; to execute X
+abbrev pub ownRight : Right → (mxr : Bool) → ℕ → Bool
+ownRight right mxr e = byRight right (has R e || (has X e && mxr)) (has W e && has D e) (has X e)
 
 -- "R for a guest entry"
 abbrev pub entryRight : ℕ → Bool

@@ -14,7 +14,7 @@ use Rattle.bits.proofs.Fields.{get-lt}
 use Rattle.registers.specs.Fields.{PPN}
 use Rattle.registers.specs.Places.{satp, vsatp, hgatp}
 use Rattle.hart.specs.declared.state.Hart.{Hart}
-use Rattle.hart.specs.Hart.{reg, passes}
+use Rattle.hart.specs.Hart.{context, paging, passes}
 use Rattle.image.specs.Image.{unfit}
 use Rattle.image.proofs.Tests.{fit}
 use Rattle.rules.specs.declared.Kind.{Kind}
@@ -23,16 +23,18 @@ use Rattle.rules.specs.Kind.{by}
 use Rattle.access.specs.declared.Access.{Access}
 use Rattle.access.specs.declared.Machine.{Machine}
 use Rattle.access.specs.declared.Root.{Root}
+use Rattle.access.specs.Widths.{known, misaligned}
 use Rattle.access.specs.Faults.{misalignment}
+use Rattle.access.proofs.Widths.{Aligned, a-power}
 use Rattle.stages.specs.Tree.{run}
 use Rattle.stages.specs.Stages.{Result, yields, faults, look, walkOf}
 use Rattle.second_stage.specs.Place.{Tables}
 use Rattle.second_stage.specs.Words.{reached, result}
-use Rattle.effective.specs.declared.EffectiveMode.{EffectiveMode}
-use Rattle.effective.specs.Effective.{effective, isBare, root, off, firstRoot, secondRoot, accessOf}
+use Rattle.effective.specs.Effective.{effective}
+use Rattle.effective.proofs.Three.{first-three, second-three}
 use Rattle.translate.specs.declared.Answer.{Answer}
 use Rattle.translate.specs.declared.Start.the-variants.{Answered, Walks}
-use Rattle.translate.specs.Translated.{known, unsupported, misaligned, firstRefusal, unlessRefused, startOf, answer, unwalked, walkedTo, translated}
+use Rattle.translate.specs.Translated.{unsupported, firstRefusal, unlessRefused, accessOf, startOf, answer, unwalked, walkedTo, translated}
 
 -- an access that is not refused has a known width
 pub known-width : (kind : Kind) (address width : ℕ) → unsupported kind address width ≡ false → known width ≡ true
@@ -53,37 +55,8 @@ unsupported-code Fetch address width = four-known (eqb width 1) (eqb width 2) (e
 unsupported-code Load address width = sym (or-false (not (known width)))
 unsupported-code Store address width = sym (or-false (not (known width)))
 
--- what holds of each width holds of a known one
-each-width : (P : ℕ → Type 0) → P 1 → P 2 → P 4 → P 8 → (width : ℕ) → known width ≡ true → P width
-each-width P one two four eight width h = go (eqb width 1) (eqb width 2) (eqb width 4) (eqb width 8) refl refl refl refl h
-  where
-    go : (a b c d : Bool) → eqb width 1 ≡ a → eqb width 2 ≡ b → eqb width 4 ≡ c → eqb width 8 ≡ d → (a || b || c || d) ≡ true → P width
-    go true b c d e f g i q = subst P (sym (eqb-true width 1 e)) one
-    go false true c d e f g i q = subst P (sym (eqb-true width 2 f)) two
-    go false false true d e f g i q = subst P (sym (eqb-true width 4 g)) four
-    go false false false true e f g i q = subst P (sym (eqb-true width 8 i)) eight
-    go false false false false e f g i q = clash q
-
--- a known width is a power of two: the remainder by it, as the code takes it
-pub powered : (address width : ℕ) → known width ≡ true → (1 ≤ width) × (bitAnd address (width - 1) ≡ address % width)
-powered address =
-    each-width (λ (w : ℕ). (1 ≤ w) × (bitAnd address (w - 1) ≡ address % w)) (omega arith, and-mask address 0) (omega arith, and-mask address 1)
-    (omega arith, and-mask address 2) (omega arith, and-mask address 3)
-
--- an access that is neither refused nor misaligned is of 2 ^ k bytes, from a multiple of them on
-pub record Aligned (address width : ℕ) : Type 0 where
-  pub k : ℕ
-  pub small : k ≤ 12
-  pub size : width ≡ 2 ^ k
-  pub multiple : address % 2 ^ k ≡ 0
-
 equal : (n m : ℕ) → not (eqb n m) ≡ false → n ≡ m
 equal n m h = eqb-true n m (not-false (eqb n m) h)
-
-a-power : (address width : ℕ) → known width ≡ true → address % width ≡ 0 → Aligned address width
-a-power address =
-    each-width (λ (w : ℕ). address % w ≡ 0 → Aligned address w) (λ m. record { k = 0; small = omega arith; size = refl; multiple = m })
-    (λ m. record { k = 1; small = omega arith; size = refl; multiple = m }) (λ m. record { k = 2; small = omega arith; size = refl; multiple = m }) (λ m. record { k = 3; small = omega arith; size = refl; multiple = m })
 
 pub aligned : (kind : Kind) (address width : ℕ) → unsupported kind address width ≡ false → misaligned kind address width ≡ false → Aligned address width
 unfolding unsupported
@@ -99,31 +72,11 @@ aligned Load address width h k = a-power address width (known-width Load address
 aligned Store address width h k = a-power address width (known-width Store address width h) (equal (address % width) 0 k)
 
 -- tables of at most three levels
-pub record Three (r : Root) : Type 0 where
-  pub levels : r .levels ≤ 3
-  pub ppn : r .ppn < 2 ^ 44
-
-three-off : Three off
-three-off = record { levels = omega arith; ppn = omega arith }
-
-three-root : (x : ℕ) → Three (root x)
-three-root x = pick-both Three (isBare x) off _ (λ e. three-off) (λ e. record { levels = omega arith; ppn = get-lt PPN x })
-
-pub first-three : (h : Hart) (m : EffectiveMode) → Three (firstRoot h m)
-unfolding firstRoot
-first-three h m =
-    pick-both Three (m .v) (root (reg h vsatp)) (pick (eqb (m .privilege) 3) off (root (reg h satp))) (λ e. three-root (reg h vsatp))
-    (λ e. pick-both Three (eqb (m .privilege) 3) off (root (reg h satp)) (λ e. three-off) (λ e. three-root (reg h satp)))
-
-pub second-three : (h : Hart) (m : EffectiveMode) → Three (secondRoot h m)
-unfolding secondRoot
-second-three h m = pick-both Three (m .v) (root (reg h hgatp)) off (λ e. three-root (reg h hgatp)) (λ e. three-off)
-
 pub tables-of : (h : Hart) (kind : Kind) (address width : ℕ) → let a = accessOf h kind address width in Tables a × (a .first .levels ≤ 3) × (a .second .levels ≤ 3)
 unfolding accessOf
 tables-of h kind address width =
-    let f = first-three h (effective h kind) in
-    let s = second-three h (effective h kind) in
+    let f = first-three (paging h) (effective (context h) kind) in
+    let s = second-three (paging h) (effective (context h) kind) in
     (record { first = omega (arith, f .levels); second = omega (arith, s .levels); firstRoot = f .ppn; secondRoot = s .ppn }, f .levels, s .levels)
 
 -- a walk's result gives the same answer as the code has it

@@ -12,16 +12,17 @@ use Rattle.hart.specs.Hart.{passes}
 use Rattle.image.specs.Image.{unfit}
 use Rattle.rules.specs.declared.Kind.{Kind}
 use Rattle.access.specs.declared.Machine.{Machine}
+use Rattle.access.specs.Widths.{misaligned}
 use Rattle.access.specs.Faults.{misalignment}
+use Rattle.access.proofs.Widths.{Aligned}
 use Rattle.stages.specs.Tree.{Ran, run}
 use Rattle.stages.specs.Stages.{Result, look, walkOf}
 use Rattle.translate.specs.declared.Answer.{Answer}
 use Rattle.translate.specs.declared.Start.{Start}
 use Rattle.translate.specs.declared.Start.the-variants.{Answered, Walks}
 use Rattle.translate.specs.declared.Translated.{Translated}
-use Rattle.effective.specs.Effective.{accessOf}
-use Rattle.translate.specs.Translated.{unsupported, misaligned, unlessRefused, startOf, unwalked, walkedTo, concluded, translated}
-use Rattle.translate.proofs.Accesses.{Aligned, aligned}
+use Rattle.translate.specs.Translated.{unsupported, unlessRefused, accessOf, startOf, unwalked, walkedTo, concluded, translated}
+use Rattle.translate.proofs.Accesses.{aligned}
 
 module _ (h : Hart) (base : ℕ) (bytes : List ℕ) (kind : Kind) (address width : ℕ) where
   -- the walk over the image

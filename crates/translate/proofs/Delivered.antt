@@ -12,7 +12,7 @@ use Rattle.exceptions.specs.declared.Exception.{Exception}
 use Rattle.privilege.specs.declared.Context.{Context}
 use Rattle.traps.specs.Request.{impossible}
 use Rattle.hart.specs.declared.state.Hart.{Hart}
-use Rattle.hart.specs.Hart.{context, passes}
+use Rattle.hart.specs.Hart.{context, paging, passes}
 use Rattle.hart.specs.Event.{trapped, settled}
 use Rattle.hart.specs.Trap.{trap}
 use Rattle.rules.specs.declared.Kind.{Kind}
@@ -26,8 +26,8 @@ use Rattle.stages.specs.Stages.{Result, yields, faults, look}
 use Rattle.stages.proofs.Raised.{every-fault}
 use Rattle.translate.specs.declared.Answer.{Answer}
 use Rattle.translate.specs.declared.Translated.{Translated}
-use Rattle.effective.specs.Effective.{effective, accessOf, secondRoot}
-use Rattle.translate.specs.Translated.{answer, translated}
+use Rattle.effective.specs.Effective.{effective, secondRoot}
+use Rattle.translate.specs.Translated.{accessOf, answer, translated}
 use Rattle.translate.proofs.Cases.{AtOnce, refused, misaligned-by, each}
 
 -- the flag of a fault that is no guest-page fault, and of one that is
@@ -83,9 +83,9 @@ module _ (h : Hart) (kind : Kind) (address width : ℕ) where
   -- only an access with V=1 walks the second stage
   second-on : 0 < a .second .levels → a .v ≡ true
   unfolding accessOf secondRoot
-  second-on = go (effective h kind .v) refl
+  second-on = go (effective (context h) kind .v) refl
     where
-      go : (b : Bool) → effective h kind .v ≡ b → 0 < secondRoot h (effective h kind) .levels → b ≡ true
+      go : (b : Bool) → effective (context h) kind .v ≡ b → 0 < secondRoot (paging h) (effective (context h) kind) .levels → b ≡ true
       go true e on = refl
       go false e on = let no : ⊥ = omega (arith, rw e at on) in absurd no
 

@@ -16,9 +16,12 @@ use Rattle.hart.specs.declared.state.Hart.{Hart}
 use Rattle.hart.specs.Hart.{reg, passes}
 use Rattle.image.specs.Image.{unfit}
 use Rattle.rules.specs.declared.Kind.{Kind}
+use Rattle.rules.specs.declared.Right.{Right}
+use Rattle.rules.specs.Kind.{by}
 use Rattle.access.specs.declared.Access.{Access}
 use Rattle.access.specs.declared.Machine.{Machine}
 use Rattle.access.specs.declared.Root.{Root}
+use Rattle.access.specs.Widths.{misaligned}
 use Rattle.access.specs.Faults.{misalignment}
 use Rattle.stages.specs.declared.Read.{Read}
 use Rattle.stages.specs.Tree.{Ran, run}
@@ -32,8 +35,8 @@ use Rattle.translate.specs.declared.Answer.{Answer}
 use Rattle.translate.specs.declared.Start.{Start}
 use Rattle.translate.specs.declared.Start.the-variants.{Answered, Walks}
 use Rattle.translate.specs.declared.Translated.{Translated}
-use Rattle.effective.specs.Effective.{root, accessOf}
-use Rattle.translate.specs.Translated.{unsupported, misaligned, refusals, firstRefusal, refusal, unlessRefused, startOf, answer, unwalked, walkedTo, concluded, translated}
+use Rattle.effective.specs.Effective.{root}
+use Rattle.translate.specs.Translated.{unsupported, refusals, firstRefusal, refusal, unlessRefused, accessOf, startOf, answer, unwalked, walkedTo, concluded, translated}
 use Rattle.translate.specs.On.{firstOn, secondOn}
 use Rattle.translate.proofs.Accesses.{tables-of}
 use Rattle.translate.proofs.On.{first-off, second-off, first-tables, second-tables, second-levels}
@@ -144,7 +147,7 @@ module _ (h : Hart) (base : ℕ) (bytes : List ℕ) (kind : Kind) (address width
 
     -- the access's own right, with mstatus's MXR
     abbrev own : ℕ → Bool
-    own = ownRight kind (isSet MXR (reg h mstatus))
+    own = ownRight (by kind Right.Execute Right.Read Right.Write) (isSet MXR (reg h mstatus))
 
     -- Each guest entry listed is the one that the first stage's pointers before it lead to; its eight bytes lie on a page that a second-stage walk
     -- standing directly before it let its guest address through to, with R and U.

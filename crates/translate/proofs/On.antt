@@ -9,10 +9,11 @@ use Rattle.bits.specs.Field.{pick}
 use Rattle.bits.proofs.Bools.{and-left, and-right}
 use Rattle.registers.specs.Places.{satp, vsatp, hgatp}
 use Rattle.hart.specs.declared.state.Hart.{Hart}
-use Rattle.hart.specs.Hart.{reg}
+use Rattle.hart.specs.Hart.{reg, context}
 use Rattle.rules.specs.declared.Kind.{Kind}
 use Rattle.access.specs.declared.Access.{Access}
-use Rattle.effective.specs.Effective.{effective, isBare, root, off, firstRoot, secondRoot, accessOf}
+use Rattle.effective.specs.Effective.{effective, isBare, root, off, firstRoot, secondRoot}
+use Rattle.translate.specs.Translated.{accessOf}
 use Rattle.translate.specs.On.{firstOn, secondOn}
 
 -- tables in Bare have no levels
@@ -25,7 +26,7 @@ module _ (h : Hart) (kind : Kind) (address width : ℕ) where
 
   pub first-off : firstOn h kind ≡ false → a .first .levels ≡ 0
   unfolding accessOf firstRoot
-  first-off = go (effective h kind .v) (eqb (effective h kind .privilege) 3)
+  first-off = go (effective (context h) kind .v) (eqb (effective (context h) kind .privilege) 3)
     where
       go : (v m : Bool) → pick v (not (isBare (reg h vsatp))) (not m && not (isBare (reg h satp))) ≡ false
           → pick v (root (reg h vsatp)) (pick m off (root (reg h satp))) .levels ≡ 0
@@ -35,15 +36,15 @@ module _ (h : Hart) (kind : Kind) (address width : ℕ) where
 
   pub second-off : secondOn h kind ≡ false → a .second .levels ≡ 0
   unfolding accessOf secondRoot
-  second-off = go (effective h kind .v)
+  second-off = go (effective (context h) kind .v)
     where
       go : (v : Bool) → (v && not (isBare (reg h hgatp))) ≡ false → pick v (root (reg h hgatp)) off .levels ≡ 0
       go true e = bare-levels (reg h hgatp) e
       go false e = refl
 
   module _ (on : secondOn h kind ≡ true) where
-    virtual : effective h kind .v ≡ true
-    virtual = and-left (effective h kind .v) _ on
+    virtual : effective (context h) kind .v ≡ true
+    virtual = and-left (effective (context h) kind .v) _ on
 
     -- "V=1 walks vsatp, then hgatp"
     pub first-tables : a .first ≡ root (reg h vsatp)
@@ -55,4 +56,4 @@ module _ (h : Hart) (kind : Kind) (address width : ℕ) where
     second-tables = rw virtual
 
     pub second-levels : 0 < a .second .levels
-    second-levels = rw (second-tables, not-true (isBare (reg h hgatp)) (and-right (effective h kind .v) _ on)) (omega arith)
+    second-levels = rw (second-tables, not-true (isBare (reg h hgatp)) (and-right (effective (context h) kind .v) _ on)) (omega arith)

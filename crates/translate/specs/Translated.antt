@@ -6,11 +6,13 @@ use lib.Dec.{eqb}
 use lib.ListN.{length}
 use Rattle.bits.specs.Field.{pick}
 use Rattle.hart.specs.declared.state.Hart.{Hart}
-use Rattle.hart.specs.Hart.{passes}
+use Rattle.hart.specs.Hart.{context, paging, passes}
 use Rattle.image.specs.Image.{unfit}
 use Rattle.rules.specs.declared.Kind.{Kind}
 use Rattle.rules.specs.Kind.{by}
+use Rattle.access.specs.declared.Access.{Access}
 use Rattle.access.specs.declared.Machine.{Machine}
+use Rattle.access.specs.Widths.{known, misaligned}
 use Rattle.access.specs.Faults.{misalignment}
 use Rattle.stages.specs.Tree.{Ran, run}
 use Rattle.stages.specs.Stages.{Result, yields, faults, look, walkOf}
@@ -19,7 +21,7 @@ use Rattle.translate.specs.declared.Answer.{Answer}
 use Rattle.translate.specs.declared.Start.{Start}
 use Rattle.translate.specs.declared.Start.the-variants.{Answered, Walks}
 use Rattle.translate.specs.declared.Translated.{Translated}
-use Rattle.effective.specs.Effective.{accessOf}
+use Rattle.effective.specs.Effective.{plainAccess}
 
 -- "A translation answers an address, a refusal number or a fault (cause, value, second value, word, flag)": the number of a refusal, 0 where there is none
 abbrev pub refusal : Answer → ℕ
@@ -33,19 +35,11 @@ values (Answer.Address m) = m .0 ∷ []
 values (Answer.Refused number) = number ∷ []
 values (Answer.Fault f) = f .cause ∷ f .value ∷ f .value2 ∷ f .word ∷ pick (f .flag) 1 0 ∷ []
 
--- "width 1, 2, 4 or 8"
-abbrev pub known : ℕ → Bool
-known width = eqb width 1 || eqb width 2 || eqb width 4 || eqb width 8
-
 -- Refusal 3: "width not 1, 2, 4 or 8; a fetch whose width isn't 4 or whose address isn't a multiple of 4"
 unfoldable pub unsupported : Kind → ℕ → ℕ → Bool
 unsupported kind address width =
     not (known width)
     || by kind (not (eqb width 4) || not (eqb (address % 4) 0)) false false
-
--- "Misaligned load or store: 4 or 6, before all else."
-abbrev pub misaligned : Kind → ℕ → ℕ → Bool
-misaligned kind address width = by kind false (not (eqb (address % width) 0)) (not (eqb (address % width) 0))
 
 -- "Order: 2, then 1, then the call's own.": each refusal's number, and whether it is given
 abbrev pub refusals : Hart → (base len : ℕ) → Kind → (address width : ℕ) → List (Bool × ℕ)
@@ -60,6 +54,10 @@ firstRefusal (r ∷ rs) = pick (r .0) (r .1) (firstRefusal rs)
 abbrev pub unlessRefused : ℕ → Start → Start
 unlessRefused zero next = next
 unlessRefused (suc n) next = Answered (Answer.Refused (suc n))
+
+-- "It is fed the hart, the image and the access": what it takes of the hart
+unfoldable pub accessOf : Hart → Kind → ℕ → ℕ → Access
+accessOf h kind = plainAccess (context h) (paging h) kind
 
 -- what a translation comes to before its walk: a refusal, a misalignment, or the access to walk for
 unfoldable pub startOf : Hart → (base len : ℕ) → Kind → (address width : ℕ) → Start

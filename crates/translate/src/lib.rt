@@ -1,8 +1,7 @@
 // The translation of an access on a hart: refusals, misalignment and the walk.
 ghost use mathlib.Core.Path.{_≡_};
-ghost use mathlib.Core.Bool.{true};
 ghost use Rattle.second_stage.specs.Words.{result};
-ghost use Rattle.translate.specs.Translated.{known, unsupported, misaligned, startOf, answer, translated};
+ghost use Rattle.translate.specs.Translated.{unsupported, startOf, answer, translated};
 use access::Access;
 use access::Machine;
 use exceptions::Exception;
@@ -34,18 +33,9 @@ pub struct Translated {
 fn refused(kind: Kind, address: u64, width: u64) -> bool
     ensures { λ r. ⌜ r ≡ unsupported kind address width ⌝ }
 {
-    let known = (width == 1) | (width == 2) | (width == 4) | (width == 8);
+    let known = access::is_known(width);
     let fetch = !(width == 4) | !(address % 4 == 0);
     kind.test(fetch, !known, !known)
-}
-
-// Whether a load or store of a known width is misaligned. A known width is a power of two: its remainder is the bits below it.
-fn is_misaligned(kind: Kind, address: u64, width: u64) -> bool
-    requires { ⌜ known width ≡ true ⌝ }
-    ensures { λ r. ⌜ r ≡ misaligned kind address width ⌝ }
-{
-    let t = address & (width - 1) != 0;
-    kind.test(false, t, t)
 }
 
 // The order of refusals, and misalignment.
@@ -61,8 +51,8 @@ pub fn starts(h: Hart, base: u64, len: u64, kind: Kind, address: u64, width: u64
     if refused(kind, address, width) {
         return Start::Answered(Answer::Refused(3));
     }
-    let a = effective::access(h, kind, address, width);
-    if is_misaligned(kind, address, width) {
+    let a = effective::access(h.context(), h.paging(), kind, address, width);
+    if access::is_misaligned(kind, address, width) {
         return Start::Answered(Answer::Fault(a.misalignment()));
     }
     Start::Walks(a)

@@ -6,7 +6,7 @@ use Rattle.effective.proofs.first.Tie as tie
 
 returns : tie.Need-returns
 unfolding firstRoot
-returns c = rw (c .before .before .if1 .taken) (c .tables .ensures)
+returns c = rw (c .before .if1 .taken) (c .tables .ensures)
 
 returns-2 : tie.Need-returns-2
 unfolding firstRoot
@@ -14,10 +14,10 @@ returns-2 c = rw (c .before .before .before .if1 .left, eq-eqb _ _ (c .before .i
 
 returns-3 : tie.Need-returns-3
 unfolding firstRoot
-returns-3 c = rw (c .before .before .before .before .if1 .left, ne-eqb _ _ (c .before .before .if2 .left)) (c .tables2 .ensures)
+returns-3 c = rw (c .before .before .before .if1 .left, ne-eqb _ _ (c .before .if2 .left)) (c .tables2 .ensures)
 
 pub first-spec : {M : Type 1} → statement M
 first-spec =
     tie.close
     (tie.spec
-    (λ c. search needs) (λ c κs. search needs) returns (λ c κs. search needs) returns-2 (λ c. search needs) (λ c κs. search needs) returns-3)
+    (λ c κs. search needs) returns (λ c κs. search needs) returns-2 (λ c κs. search needs) returns-3)

@@ -5,11 +5,11 @@ use Rattle.effective.proofs.second.Tie as tie
 
 returns : tie.Need-returns
 unfolding secondRoot
-returns c = rw (c .before .before .if1 .taken) (c .tables .ensures)
+returns c = rw (c .before .if1 .taken) (c .tables .ensures)
 
 returns-2 : tie.Need-returns-2
 unfolding secondRoot
 returns-2 c = rw (c .before .if1 .left) (c .off .ensures)
 
 pub second-spec : {M : Type 1} → statement M
-second-spec = tie.close (tie.spec (λ c. search needs) (λ c κs. search needs) returns (λ c κs. search needs) returns-2)
+second-spec = tie.close (tie.spec (λ c κs. search needs) returns (λ c κs. search needs) returns-2)

@@ -1,6 +1,6 @@
 use borrow.Author.Needs.{needs}
-use Rattle.hart.proofs.access.answer.Statement.{statement}
-use Rattle.hart.proofs.access.answer.Tie as tie
+use Rattle.hart.proofs.accesses.answer.Statement.{statement}
+use Rattle.hart.proofs.accesses.answer.Tie as tie
 
 returns : tie.Need-returns
 returns c = rw (c .value-of .ensures)

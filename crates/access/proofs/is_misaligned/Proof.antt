@@ -1,7 +1,7 @@
 use borrow.Author.Needs.{needs}
-use Rattle.translate.proofs.Accesses.{powered}
-use Rattle.translate.proofs.is_misaligned.Statement.{statement}
-use Rattle.translate.proofs.is_misaligned.Tie as tie
+use Rattle.access.proofs.Widths.{powered}
+use Rattle.access.proofs.is_misaligned.Statement.{statement}
+use Rattle.access.proofs.is_misaligned.Tie as tie
 
 sub-t : tie.Need-sub-t
 sub-t c = powered (c .args .address) (c .args .width) (c .pre) .0
