@@ -1,8 +1,10 @@
 -- What any event can come to, with what is known where it does: each theorem goes by these cases. Assumes nothing.
 use mathlib.Core.Path.{_≡_, refl, sym, subst}
 use mathlib.Core.Bool.{Bool, true, false}
+use mathlib.Core.List.{List}
 use Prim.Native.Nat.{ℕ, _<_}
 use lib.Dec.{eqb}
+use lib.ListN.{length}
 use borrow.Author.Tests.{eqb-true, not-false}
 use Rattle.bits.proofs.Bools.{clash}
 use Rattle.table.specs.declared.Row.{Row}
@@ -26,15 +28,22 @@ use Rattle.interrupts.specs.declared.Due.{Due}
 use Rattle.interrupts.specs.declared.Due.the-variants.{To, Nothing}
 use Rattle.interrupts.specs.Interrupts.{chosen, interruption}
 use Rattle.hart.specs.declared.event.Outcome.the-variants.{Interrupted}
-use Rattle.hart.specs.Hart.{context, lines, passes}
+use Rattle.hart.specs.declared.event.Stop.{Stop}
+use Rattle.hart.specs.declared.event.Stop.the-variants.{Goes, Halts}
+use Rattle.hart.specs.Hart.{context, lines, paging, passes}
 use Rattle.hart.specs.Deliver.{deliveredTo}
-use Rattle.hart.specs.Event.{step, done, refused, trapped, plain, moved, settled}
+use Rattle.hart.specs.Event.{step, done, refused, trapped, plain, moved, stopOf, settledBy, settled}
 use Rattle.hart.specs.Interrupt.{taking, interrupt}
 use Rattle.hart.specs.Trap.{trap, ecall, ebreak}
 use Rattle.hart.specs.Return.{returnedM, returnedHS, returnedVS, returnedS, mret, sret}
 use Rattle.hart.specs.Wait.{passing, wfi, sfenceVma, hfenceVvma, hfenceGvma}
 use Rattle.hart.specs.Access.{written, accessRow, accessFound, access}
-use Rattle.invariants.specs.Events.{Instruction, Event, stepOf, executed, run}
+use Rattle.stages.specs.Tree.{Ran}
+use Rattle.stages.specs.Stages.{yields, faults}
+use Rattle.hypervisor.specs.declared.Operation.{Operation}
+use Rattle.hypervisor.specs.Hypervisor.{End, refusalOf, accessFor, walkFor}
+use Rattle.hart.specs.Guest.{ended, reachedBy, reach}
+use Rattle.invariants.specs.Events.{Instruction, Event, stepOf, stepAt, executed, run}
 use Rattle.invariants.specs.Events as events
 use Rattle.invariants.proofs.Settled.{settled-cases}
 
@@ -110,6 +119,25 @@ settles-as events.hfence-vvma h = settles-passing h (instructions.hfenceVvma (co
 settles-as events.hfence-gvma h = settles-passing h (instructions.hfenceGvma (context h))
 settles-as (events.access form number w b) h = settles-found (firstAt table number 0) h number _ form w b refl
 
+-- ---- hypervisor loads and stores
+
+-- one is settled as any event is: done at its walk's end, or trapped with the fault there
+pub reach-settles : (o : Operation) (base : ℕ) (bytes : List ℕ) (width address word : ℕ) (h : Hart)
+    → stepAt (reach h o base bytes width address word) ≡ settled h (refusalOf o base (length bytes) width) (instructions.hypervisorAccess (context h)) word (ended h (walkFor base bytes (accessFor o (context h) (paging h) address width) .end))
+unfolding reach settled
+reach-settles o base bytes width address word h = go (stopOf h (refusalOf o base (length bytes) width) (instructions.hypervisorAccess (context h)))
+  where
+    r : Ran End
+    r = walkFor base bytes (accessFor o (context h) (paging h) address width)
+
+    go : (s : Stop) → stepAt (reachedBy s h word r) ≡ settledBy s h word (ended h (r .end))
+    go Goes = refl
+    go (Halts b n) = refl
+
+comes-ended : (h : Hart) → passes h ≡ true → (e : End) → Comes h (ended h e)
+comes-ended h p (yields m) = moves p
+comes-ended h p (faults f) = traps p f
+
 -- ---- every event
 
 comes-taking : (h : Hart) → passes h ≡ true → (d : Due) → chosen (context h) (lines h) ≡ d → Comes h (taking h d)
@@ -121,6 +149,7 @@ unfolding run trap ecall ebreak interrupt
 comes (events.executes i word) h =
     let s = settles-as i h in
     subst (Comes h) (sym (s .settles word)) (comes-settled h (s .own) (s .verdict) word (done (s .finished)) (s .comes))
+comes (events.reaches o base bytes width address word) h = subst (Comes h) (sym (reach-settles o base bytes width address word h)) (comes-settled h _ _ _ _ (λ p a. comes-ended h p (walkFor base bytes (accessFor o (context h) (paging h) address width) .end)))
 comes (events.trap t) h = comes-settled h _ _ _ _ (λ p a. traps p t)
 comes events.ecall h = comes-settled h 0 _ _ _ (λ p a. traps p (plain (callCause (context h)) 0))
 comes events.ebreak h = comes-settled h 0 _ _ _ (λ p a. traps p (breakpoint (h .v) (h .pc)))

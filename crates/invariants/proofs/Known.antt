@@ -26,7 +26,8 @@ use Rattle.rules.specs.declared.Kind.the-variants.{Load}
 use Rattle.rules.specs.Address.{first, wellFormed, extended, small, index}
 use Rattle.rules.specs.Entry.{malformed, badPointer, badLeaf, faulty, judged}
 use Rattle.access.specs.declared.Machine.{Machine}
-use Rattle.effective.specs.Effective.{firstRoot, secondRoot, accessOf}
+use Rattle.effective.specs.Effective.{firstRoot, secondRoot}
+use Rattle.translate.specs.Translated.{accessOf}
 use Rattle.stages.specs.declared.Read.{Read}
 use Rattle.stages.specs.Tree.{Ran, bind, run}
 use Rattle.stages.specs.Stages.{Result, yields, faults, follow, inspect, down, begin, final, walkOf}

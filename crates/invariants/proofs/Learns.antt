@@ -58,17 +58,17 @@ use Rattle.hart.specs.Return.{writesVSRET, returnedVS, returnedS, mret, sret}
 use Rattle.hart.specs.Wait.{wfi, sfenceVma, hfenceVvma, hfenceGvma}
 use Rattle.hart.specs.Access.{seen, written, valueOf, answer, accessRow, accessFound, access}
 use Rattle.rules.specs.declared.Kind.{Kind}
-use Rattle.effective.specs.Effective.{firstRoot, secondRoot, accessOf}
+use Rattle.effective.specs.Effective.{firstRoot, secondRoot}
 use Rattle.translate.specs.declared.Start.{Start}
 use Rattle.translate.specs.declared.Start.the-variants.{Answered, Walks}
-use Rattle.translate.specs.Translated.{startOf, concluded, translated}
+use Rattle.translate.specs.Translated.{accessOf, startOf, concluded, translated}
 use Rattle.invariants.specs.Events.{Event, stepOf, run}
 use Rattle.invariants.specs.Events as events
 use Rattle.invariants.specs.Learns.{guest, shared, SameHanded, Runs, Alike, Undisturbed, Same, SameTables, SameTranslated}
 use Rattle.invariants.proofs.Mode.{passing}
 use Rattle.invariants.proofs.Writes.{allIn, outside-kept, lands, with-lands}
 use Rattle.invariants.proofs.Settled.{settled-cases}
-use Rattle.invariants.proofs.Comes.{Allowed, reaches}
+use Rattle.invariants.proofs.Comes.{Allowed, reaches, reach-settles}
 use Rattle.invariants.proofs.Guest.{Own, Lent, reached-guest, lent-gate}
 use Rattle.invariants.proofs.Sides.{host}
 
@@ -387,6 +387,9 @@ module _ (h h′ : Hart) (a : Alike h h′) where
   -- every event comes to the same for the guest; when a host's interrupt comes is the host's
   pub guest-learns-nothing : (e : Event) → (e ≡ events.interrupt → Undisturbed h × Undisturbed h′) → Same (run e h) (run e h′)
   unfolding run trap ecall ebreak mret sret wfi sfenceVma hfenceVvma hfenceGvma interrupt
+  guest-learns-nothing (events.reaches o base bytes width address word) u =
+      rw (reach-settles o base bytes width address word h, reach-settles o base bytes width address word h′)
+      (same-settled _ _ _ _ _ _ (rw (a .left .v, a .right .v)) (λ k. clash (sym (rw (a .left .v) at (k .not22)))))
   guest-learns-nothing (events.trap t) u =
       let i : impossible (context h) t ≡ impossible (context h′) t = rw (a .left .v, a .right .v, a .privilege) in
       rw (← i) (same-settled _ _ _ _ _ _ refl (λ k. same-trapped t))
