@@ -1,3 +1,4 @@
 pub mod Tests
 pub mod Joined
 pub mod Bytes
+pub mod Memory

@@ -2,8 +2,11 @@ pub mod Mode
 pub mod Writes
 pub mod Settled
 pub mod Comes
+pub mod Reached
+pub mod Memory
 pub mod Taken
 pub mod Passing
+pub mod Back
 pub mod Answers
 pub mod Sides
 pub mod Guest

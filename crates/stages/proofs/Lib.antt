@@ -1,6 +1,7 @@
 pub mod Trees
 pub mod Runs
 pub mod Ends
+pub mod Follows
 pub mod Bounds
 pub mod Images
 pub mod Offsets

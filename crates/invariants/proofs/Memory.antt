@@ -1,0 +1,115 @@
+-- What hypervisor loads and stores do with the image's bytes. Assumes nothing.
+use mathlib.Core.Path.{_≡_, refl, sym, ap, _∙_}
+use mathlib.Core.Bool.{Bool, true, false, not}
+use mathlib.Core.List.{List, [], _∷_}
+use mathlib.Core.Logic.{_⊎_}
+use Prim.Native.Nat.{ℕ, _+_, _-_, _*_, _/_, _%_, _^_, _<_, _≤_}
+use native.Mathlib.Omega.{arith}
+use lib.Dec.{eqb}
+use lib.ListN.{length, getD}
+use Rattle.bits.specs.Field.{pick}
+use Rattle.bits.proofs.Bools.{clash}
+use Rattle.instructions.specs.Instructions.{hypervisorAccess}
+use Rattle.image.specs.Image.{within}
+use Rattle.image.specs.Data.{little, bytesAt, extended, loaded, stored}
+use Rattle.image.proofs.Tests.{within-facts}
+use Rattle.image.proofs.Memory.{Apart, stored-length, stored-apart, stored-byte, stored-loads, entry-apart, same-bytes}
+use Rattle.access.specs.declared.Access.{Access}
+use Rattle.access.specs.declared.Machine.{Machine}
+use Rattle.access.specs.Widths.{misaligned}
+use Rattle.stages.specs.declared.Read.{Read}
+use Rattle.stages.specs.Tree.{Ran, run}
+use Rattle.stages.specs.Stages.{yields, faults, look, walkOf}
+use Rattle.stages.specs.Through.{Each, Agree}
+use Rattle.stages.proofs.Images.{same-walk}
+use Rattle.stages.proofs.Follows.{loads-where-stores}
+use Rattle.hypervisor.specs.declared.Operation.{Operation}
+use Rattle.hypervisor.specs.declared.Operation.the-variants.{Hlv, Hsv}
+use Rattle.hypervisor.specs.Hypervisor.{End, refusalOf, accessFor, walkFor}
+use Rattle.hart.specs.declared.state.Hart.{Hart}
+use Rattle.hart.specs.declared.event.Outcome.the-variants.{Done}
+use Rattle.hart.specs.declared.event.Stop.{Stop}
+use Rattle.hart.specs.declared.event.Stop.the-variants.{Goes, Halts}
+use Rattle.hart.specs.declared.guest.Reach.{Reach}
+use Rattle.hart.specs.declared.guest.Performed.{Performed}
+use Rattle.hart.specs.Hart.{context, paging, passes}
+use Rattle.hart.specs.Event.{isDone, stopOf, moved}
+use Rattle.hart.specs.Guest.{ended, arrived, reachedBy, reach, performed, load, hlv, hsv}
+use Rattle.hart.proofs.Reached.{done-inside}
+use Rattle.invariants.proofs.Reached.{listed, same-reach}
+
+-- ---- loads
+
+module _ (h : Hart) (o : Operation) (base : ℕ) (width : ℕ) (signed : Bool) (address word : ℕ) where
+  -- "a trap or refusal answers 0"
+  pub answers-zero : (bytes : List ℕ) → let p = load h o base bytes width signed address word in isDone (p .outcome) ≡ false → p .value ≡ 0
+  unfolding load
+  answers-zero bytes e = rw e
+
+  -- two images of one base and length that agree on the entries listed for one of them and on the bytes loaded: all is the same
+  pub same-load : (s s′ : List ℕ) → length s ≡ length s′ → let r = reach h o base s width address word in Agree (look base s) (look base s′) (listed r)
+      → (isDone (r .outcome) ≡ true → (i : ℕ) → i < width → getD s (r .at - base + i) 0 ≡ getD s′ (r .at - base + i) 0)
+      → load h o base s′ width signed address word ≡ load h o base s width signed address word
+  unfolding load loaded
+  same-load s s′ e agree bytes = rw (same-reach h o base s s′ width address word e agree) (go (isDone (r .outcome)) refl)
+    where
+      r : Reach
+      r = reach h o base s width address word
+
+      value : List ℕ → ℕ
+      value t = extended signed width (little (bytesAt base t (r .at) width))
+
+      go : (b : Bool) → isDone (r .outcome) ≡ b → performed r (pick b (value s′) 0) ≡ performed r (pick b (value s) 0)
+      go false d = refl
+      go true d =
+          let f = within-facts base (length s) (r .at) width (done-inside h o base s width address word d .1) in
+          let same = same-bytes s s′ (r .at - base) width (omega (arith, f .0, f .1)) (omega (arith, f .0, f .1, e)) (bytes d) in
+          ap (λ (xs : List ℕ). performed r (extended signed width (little xs))) (sym same)
+
+-- ---- stores
+
+module _ (h : Hart) (base : ℕ) (bytes : List ℕ) (width address value word : ℕ) where
+  abbrev r : Reach
+  r = reach h Hsv base bytes width address word
+
+  abbrev p : Performed
+  p = hsv h base bytes width address value word .0
+
+  -- the image after it
+  abbrev after : List ℕ
+  after = hsv h base bytes width address value word .1
+
+  by-done : (b : Bool) → isDone (r .outcome) ≡ b → after ≡ pick b (stored base bytes (r .at) width value) bytes
+  unfolding hsv
+  by-done b e = rw e
+
+  -- "nothing on any fault", nor where it is refused
+  pub nothing-stored : isDone (p .outcome) ≡ false → after ≡ bytes
+  unfolding hsv
+  nothing-stored e = by-done false e
+
+  pub same-length : length after ≡ length bytes
+  same-length = go (isDone (r .outcome)) refl
+    where
+      go : (b : Bool) → isDone (r .outcome) ≡ b → length after ≡ length bytes
+      go true e = ap length (by-done true e) ∙ stored-length base bytes (r .at) width value
+      go false e = ap length (by-done false e)
+
+  -- "exactly its own bytes": none outside [address, address + width), the machine address where it was done
+  pub none-outside : (k : ℕ) → Apart (r .at - base) width k → getD after k 0 ≡ getD bytes k 0
+  none-outside k a = go (isDone (r .outcome)) refl
+    where
+      go : (b : Bool) → isDone (r .outcome) ≡ b → getD after k 0 ≡ getD bytes k 0
+      go true e = ap (λ (s : List ℕ). getD s k 0) (by-done true e) ∙ stored-apart base bytes (r .at) width value k a
+      go false e = ap (λ (s : List ℕ). getD s k 0) (by-done false e)
+
+  module _ (d : isDone (r .outcome) ≡ true) where
+    inside : (base ≤ r .at) × (r .at + width ≤ base + length bytes)
+    inside = within-facts base (length bytes) (r .at) width (done-inside h Hsv base bytes width address word d .1)
+
+    fits : r .at - base + width ≤ length bytes
+    fits = omega (arith, inside .0, inside .1)
+
+    -- and those are the value's: byte i is its bits from 8 i up
+    pub the-value's : (i : ℕ) → i < width → getD after (r .at - base + i) 0 ≡ value / 2 ^ (8 * i) % 256
+    the-value's i l = ap (λ (s : List ℕ). getD s (r .at - base + i) 0) (by-done true d) ∙ stored-byte base bytes (r .at) width value fits i l

@@ -1,0 +1,186 @@
+-- Demand 3 of the hypervisor loads and stores: their list is that of a walk made for the guest. Assumes nothing.
+use mathlib.Core.Path.{_≡_, refl, sym, ap, subst, _∙_}
+use mathlib.Core.Bool.{Bool, true, false, not}
+use mathlib.Core.List.{List, [], _∷_, _++_}
+use Prim.Native.Nat.{ℕ, suc, _+_, _-_, _*_, _%_, _<_, _≤_}
+use native.Mathlib.Nat.{mul-le-mul, zero-mul}
+use native.Mathlib.Omega.{arith}
+use lib.Dec.{eqb}
+use lib.ListN.{length, take, drop}
+use lib.Seq.{take-append-seam, drop-append-seam}
+use borrow.Author.Tests.{eqb-true, not-false}
+use Rattle.bits.specs.Field.{pick}
+use Rattle.bits.proofs.Bools.{clash}
+use Rattle.registers.specs.Fields.{MXR}
+use Rattle.registers.specs.Places.{vsatp, hgatp, mstatus}
+use Rattle.privilege.specs.Mode.{isSet}
+use Rattle.instructions.specs.Instructions.{hypervisorAccess}
+use Rattle.rules.specs.declared.Right.{Right}
+use Rattle.access.specs.declared.Access.{Access}
+use Rattle.access.specs.declared.Machine.{Machine}
+use Rattle.access.specs.declared.Root.{Root}
+use Rattle.access.specs.Widths.{misaligned}
+use Rattle.access.specs.Faults.{misalignment}
+use Rattle.access.proofs.Widths.{Aligned, a-power}
+use Rattle.stages.specs.declared.Read.{Read}
+use Rattle.stages.specs.Tree.{Ran, run}
+use Rattle.stages.specs.Stages.{yields, faults, look, machine, walkOf}
+use Rattle.stages.specs.Listed.{places, unused}
+use Rattle.stages.specs.Through.{Agree, Shown, ownRight, GuestEntry, AnsweredThrough}
+use Rattle.stages.proofs.Bounds.{at-most}
+use Rattle.stages.proofs.Images.{same-walk, shown-run}
+use Rattle.stages.proofs.Guarded.{guarded}
+use Rattle.effective.specs.Effective.{isBare, root, secondRoot, firstRoot}
+use Rattle.hypervisor.specs.declared.Operation.{Operation}
+use Rattle.hypervisor.specs.declared.Operation.the-variants.{Hlv, Hlvx, Hsv}
+use Rattle.hypervisor.specs.Hypervisor.{End, byOperation, kindOf, refusalOf, accessFor, walkFor}
+use Rattle.hypervisor.proofs.Taken.{taken, tables-for}
+use Rattle.hart.specs.declared.state.Hart.{Hart}
+use Rattle.hart.specs.declared.event.Step.{Step}
+use Rattle.hart.specs.declared.event.Stop.{Stop}
+use Rattle.hart.specs.declared.event.Stop.the-variants.{Goes, Halts}
+use Rattle.hart.specs.declared.guest.Reach.{Reach}
+use Rattle.hart.specs.Hart.{reg, context, paging, passes}
+use Rattle.hart.specs.Event.{isDone, refused, raised, trapped, stopOf}
+use Rattle.hart.specs.Guest.{unwalked, arrived, reachedBy, reach}
+use Rattle.invariants.proofs.Settled.{stop-cases}
+
+-- the items listed: the places up to the count
+abbrev pub listed : Reach → List Read
+listed r = take (r .count) (r .reads)
+
+pub listed-walk : (h : Hart) (r : Ran End) → listed (arrived h r) ≡ r .reads
+listed-walk h r = take-append-seam (r .reads) (unused (places - length (r .reads)))
+
+-- a misaligned access, and one that is none
+abbrev pub misaligned-one : Access → Ran End
+misaligned-one a = record { end = faults (misalignment a); reads = [] }
+
+whole : (o : Operation) (address width : ℕ) → misaligned (kindOf o) address width ≡ false → address % width ≡ 0
+whole Hlv address width e = eqb-true _ _ (not-false _ e)
+whole Hlvx address width e = eqb-true _ _ (not-false _ e)
+whole Hsv address width e = eqb-true _ _ (not-false _ e)
+
+not-empty : {P : Type 0} (earlier : List Read) (x : Read) (later : List Read) → _≡_ {A = List Read} [] (earlier ++ (x ∷ later)) → P
+not-empty [] x later e = clash (cc)
+not-empty (y ∷ ys) x later e = clash (cc)
+
+module _ (h : Hart) (o : Operation) (base : ℕ) (bytes : List ℕ) (width address word : ℕ) where
+  -- the access made for the guest, and its walk over the image
+  abbrev pub accessed : Access
+  accessed = accessFor o (context h) (paging h) address width
+
+  abbrev pub ran : Ran End
+  ran = run (look base bytes) (walkOf base (length bytes) accessed)
+
+  abbrev r : Reach
+  r = reach h o base bytes width address word
+
+  -- what holds of those without a walk, none of which is done, and of the walk holds of every one
+  pub each : (P : Reach → Type 0) → ((s : Step) → isDone (s .outcome) ≡ false → P (unwalked s)) → (passes h ≡ true → Aligned address width → P (arrived h ran)) → P r
+  unfolding reach walkFor
+  each P u w =
+      stop-cases (λ (s : Stop). P (reachedBy s h word (walkFor base bytes accessed))) h (refusalOf o base (length bytes) width) (hypervisorAccess (context h)) (λ n z. u (refused h n) refl)
+      (λ p cause which. u (raised h cause word) refl) (λ p own no2 no22. goes p own (misaligned (kindOf o) address width) refl)
+    where
+      goes : passes h ≡ true → refusalOf o base (length bytes) width ≡ 0 → (b : Bool) → misaligned (kindOf o) address width ≡ b → P (arrived h (pick b (misaligned-one accessed) ran))
+      goes p own true e = u (trapped h (misalignment accessed)) refl
+      goes p own false e = w p (a-power address width (taken o base (length bytes) width own .form) (whole o address width e))
+
+  -- n first-stage levels over m second-stage levels: at most (n + 1) (m + 1) - 1 reads
+  count-bound : r .count ≤ accessed .first .levels * suc (accessed .second .levels) + accessed .second .levels
+  count-bound = each (λ (x : Reach). x .count ≤ accessed .first .levels * suc (accessed .second .levels) + accessed .second .levels) (λ s d. omega arith) (λ p k. at-most accessed base (length bytes) (look base bytes))
+
+  pub both-stages : r .count ≤ 15
+  both-stages =
+      let k = tables-for o (context h) (paging h) address width in
+      let m : accessed .first .levels * suc (accessed .second .levels) ≤ 3 * 4 = mul-le-mul {m₂ = 4} (k .1) (omega (arith, k .2)) in
+      omega (arith, count-bound, k .2)
+
+  first-off : isBare (reg h vsatp) ≡ true → accessed .first .levels ≡ 0
+  unfolding firstRoot
+  first-off e = rw e
+
+  second-off : isBare (reg h hgatp) ≡ true → accessed .second .levels ≡ 0
+  unfolding secondRoot
+  second-off e = rw e
+
+  pub first-alone : isBare (reg h hgatp) ≡ true → r .count ≤ 3
+  first-alone e = let k = tables-for o (context h) (paging h) address width in omega (arith, rw (second-off e) at count-bound, k .1)
+
+  pub second-alone : isBare (reg h vsatp) ≡ true → r .count ≤ 3
+  second-alone e = let k = tables-for o (context h) (paging h) address width in omega (arith, rw (first-off e, zero-mul) at count-bound, k .2)
+
+  pub no-stage : isBare (reg h vsatp) ≡ true → isBare (reg h hgatp) ≡ true → r .count ≡ 0
+  no-stage e f = omega (arith, rw (first-off e, second-off f) at count-bound)
+
+  -- the places beyond the count are zero
+  pub beyond-count : drop (r .count) (r .reads) ≡ unused (places - r .count)
+  beyond-count = each (λ (x : Reach). drop (x .count) (x .reads) ≡ unused (places - x .count)) (λ s d. refl) (λ p k. drop-append-seam (ran .reads) (unused (places - length (ran .reads))))
+
+  -- each item listed is what the image has at its address
+  pub shown : Shown (look base bytes) (listed r)
+  shown = each (λ (x : Reach). Shown (look base bytes) (listed x)) (λ s d. tt) (λ p k. rw (listed-walk h ran) (shown-run (look base bytes) (walkOf base (length bytes) accessed)))
+
+  -- ---- with the second stage on
+
+  module _ (on : isBare (reg h hgatp) ≡ false) where
+    -- vsatp's tables and hgatp's
+    abbrev vs : Root
+    vs = root (reg h vsatp)
+
+    abbrev g : Root
+    g = root (reg h hgatp)
+
+    -- "R; X for HLVX; W": to read R, or X with mstatus's MXR
+    abbrev own : ℕ → Bool
+    own = ownRight (byOperation o Right.Read Right.Execute Right.Write) (isSet MXR (reg h mstatus))
+
+    second-on : 0 < accessed .second .levels
+    unfolding secondRoot
+    second-on = rw on (omega arith)
+
+    -- each guest entry listed is on a page that the second-stage walk directly before it let through with R and U, of HLVX too
+    pub guest-entries : (earlier : List Read) (x : Read) (later : List Read) → listed r ≡ earlier ++ (x ∷ later) → x .stage ≡ 1 → GuestEntry vs g address (vs .levels - 1) (vs .ppn * 4096) earlier x
+    unfolding firstRoot secondRoot
+    guest-entries earlier x later e one =
+        each (λ (y : Reach). listed y ≡ earlier ++ (x ∷ later) → GuestEntry vs g address (vs .levels - 1) (vs .ppn * 4096) earlier x) (λ s d q. not-empty earlier x later q)
+        (λ p k q. guarded (look base bytes) base (length bytes) accessed second-on (k .k) (k .small) (k .multiple) .entries earlier x later one (sym (listed-walk h ran) ∙ q)) e
+
+    -- the bytes loaded or stored lie on a page that the second-stage walk ending the list let through, for the first stage's result, with the right needed and U
+    pub bytes-let-through : isDone (r .outcome) ≡ true → AnsweredThrough vs g own address (listed r) (machine (r .at)) width
+    unfolding firstRoot secondRoot
+    bytes-let-through =
+        each (λ (y : Reach). isDone (y .outcome) ≡ true → AnsweredThrough vs g own address (listed y) (machine (y .at)) width) (λ s d q. clash (sym d ∙ q)) (λ p k. by-end k (ran .end) refl)
+      where
+        by-end : Aligned address width → (e : End) → ran .end ≡ e → isDone (arrived h (record { end = e; reads = ran .reads }) .outcome) ≡ true
+            → AnsweredThrough vs g own address (listed (arrived h (record { end = e; reads = ran .reads }))) (machine (arrived h (record { end = e; reads = ran .reads }) .at)) width
+        by-end k (faults f) q d = clash d
+        by-end k (yields m) q d =
+            rw (listed-walk h ran)
+            (subst (λ (n : ℕ). AnsweredThrough vs g own address (ran .reads) m n) (sym (k .size))
+            (guarded (look base bytes) base (length bytes) accessed second-on (k .k) (k .small) (k .multiple) .answer m q))
+
+-- two images of one base and length that agree on the entries listed for one of them: the same hart, the same fault or address, and the same list
+pub same-reach : (h : Hart) (o : Operation) (base : ℕ) (s s′ : List ℕ) (width address word : ℕ) → length s ≡ length s′ → Agree (look base s) (look base s′) (listed (reach h o base s width address word))
+    → reach h o base s′ width address word ≡ reach h o base s width address word
+unfolding reach walkFor
+same-reach h o base s s′ width address word e = rw (← e) (go (stopOf h (refusalOf o base (length s) width) (hypervisorAccess (context h))))
+  where
+    a : Access
+    a = accessFor o (context h) (paging h) address width
+
+    -- the walk, or the misalignment, over an image of that length
+    over : Bool → List ℕ → Ran End
+    over b t = pick b (misaligned-one a) (run (look base t) (walkOf base (length s) a))
+
+    walks : (b : Bool) → Agree (look base s) (look base s′) (listed (arrived h (over b s))) → over b s′ ≡ over b s
+    walks true k = refl
+    walks false k = same-walk base s s′ e (walkOf base (length s) a) (rw (listed-walk h (run (look base s) (walkOf base (length s) a))) at k)
+
+    m : Bool
+    m = misaligned (kindOf o) address width
+
+    go : (x : Stop) → Agree (look base s) (look base s′) (listed (reachedBy x h word (over m s))) → reachedBy x h word (over m s′) ≡ reachedBy x h word (over m s)
+    go (Halts b n) k = refl
+    go Goes k = ap (arrived h) (walks m k)
