@@ -12,11 +12,10 @@ use Rattle.table.specs.Table.{table, firstAt}
 use Rattle.hart.specs.declared.state.Hart.{Hart}
 use Rattle.hart.specs.declared.event.Step.{Step}
 use Rattle.hart.specs.declared.accesses.Accessed.{Accessed}
-use Rattle.hart.specs.declared.guest.Performed.{Performed}
 use Rattle.translate.specs.Translated.{translated}
 use Rattle.layout.specs.Layout.{hartOf, step-size, stepWords, access-size, accessWords}
-use Rattle.layout.specs.Taken.{misfit, put}
-use Rattle.listing.specs.Listing.{translation-size, translationWords, performed-size, performedWords}
+use Rattle.layout.specs.Taken.{put}
+use Rattle.listing.specs.Listing.{translation-size, translationWords}
 use Rattle.listing.specs.Taken.{putKind, kindOf}
 
 -- an event on a hart's words
@@ -26,14 +25,6 @@ onStep event h out = put (length h) step-size out (stepWords (event (hartOf h)))
 -- a register access
 abbrev pub onAccess : (Hart → Accessed) → (h out : List ℕ) → ℕ × List ℕ
 onAccess access h out = put (length h) access-size out (accessWords (access (hartOf h)))
-
--- a hypervisor load
-abbrev pub onLoad : (Hart → Performed) → (h out : List ℕ) → ℕ × List ℕ
-onLoad load h out = put (length h) performed-size out (performedWords (load (hartOf h)))
-
--- a hypervisor store: with the image's bytes after it, untouched where a length is wrong
-abbrev pub onStore : (Hart → Performed × List ℕ) → (h bytes out : List ℕ) → ℕ × List ℕ × List ℕ
-onStore store h bytes out = pick (misfit (length h) (length out) performed-size) (1, out, bytes) (0, performedWords (store (hartOf h) .0), store (hartOf h) .1)
 
 -- a translation, its kind of access given by number
 abbrev pub onTranslation : List ℕ → ℕ → List ℕ → (kind address width : ℕ) → List ℕ → ℕ × List ℕ

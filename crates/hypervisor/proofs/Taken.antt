@@ -32,6 +32,7 @@ offered-known Hlvx width e = go (eqb width 1) (eqb width 2) (eqb width 4) e
     go false false false q = clash q
 
 pub record Taken (base len width : ℕ) : Type 0 where
+  pub image : unfit base len ≡ false
   pub ends : base + len ≤ 2 ^ 56
   pub form : known width ≡ true
 
@@ -42,7 +43,7 @@ taken o base len width = go (unfit base len) (not (offered o width)) refl refl
     go : (b c : Bool) → unfit base len ≡ b → not (offered o width) ≡ c → _≡_ {A = ℕ} (pick b 1 (pick c 3 0)) 0 → Taken base len width
     go true c p q e = absurd (omega (arith, e))
     go false true p q e = absurd (omega (arith, e))
-    go false false p q e = record { ends = fit base len p; form = offered-known o width (not-false _ q) }
+    go false false p q e = record { image = p; ends = fit base len p; form = offered-known o width (not-false _ q) }
 
 -- its access goes by tables of at most three levels
 pub tables-for : (o : Operation) (c : Context) (p : Paging) (address width : ℕ) → let a = accessFor o c p address width in Tables a × (a .first .levels ≤ 3) × (a .second .levels ≤ 3)

@@ -62,5 +62,10 @@ pub fn store(base: u64, bytes: &mut [u8], address: u64, width: u64, value: u64)
     requires { ⌜ within base (length (now bytes)) address width ≡ true ⌝ }
     ensures { λ _. ⌜ now (bytes .exit) ≡ stored base (now (bytes .entry)) address width value ⌝ }
 {
-    split(&mut *bytes, (address - base) as usize, width as usize, value)
+    split(
+        &mut *bytes,
+        (address - base) as usize,
+        width as usize,
+        value,
+    )
 }

@@ -3,6 +3,7 @@ ghost use mathlib.Core.Path.{_≡_};
 ghost use Prim.Native.Nat.{_+_, _-_, _^_, _<_, _≤_};
 ghost use lib.ListN.{length};
 ghost use Rattle.image.specs.Image.{unfit, within, four, eight, entry};
+
 pub mod data;
 
 // What stands at a machine address: an entry's value, or nothing of the image.

@@ -78,7 +78,7 @@ abbrev fault-cause : Result Machine → ℕ
 fault-cause (yields m) = 0
 fault-cause (faults f) = f .cause
 
-abbrev second-value : Result Machine → ℕ
+abbrev pub second-value : Result Machine → ℕ
 second-value (yields m) = 0
 second-value (faults f) = f .value2
 

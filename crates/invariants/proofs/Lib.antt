@@ -7,11 +7,14 @@ pub mod Memory
 pub mod Taken
 pub mod Passing
 pub mod Back
+pub mod Outside
 pub mod Answers
 pub mod Sides
 pub mod Guest
 pub mod Learns
 pub mod Known
 pub mod Worked
+pub mod Reaching
 pub mod Told
 pub mod Word
+pub mod Faulted

@@ -57,12 +57,12 @@ flagged f changes s b t w u = rw (untouched-kept f changes (put f (pick b 1 0) s
     same false = refl
 
 -- what a level is told: VS the cause and the value alone
-abbrev heard : Target → Exception → Exception
+abbrev pub heard : Target → Exception → Exception
 heard M t = t
 heard HS t = t
 heard VS t = record { cause = t .cause; value = t .value; value2 = 0; word = 0; flag = false }
 
-tells : (to : Target) (h : Hart) (t : Exception) → length (h .regs) ≡ kept → told (deliveredTo to h t) ≡ heard to t
+pub tells : (to : Target) (h : Hart) (t : Exception) → length (h .regs) ≡ kept → told (deliveredTo to h t) ≡ heard to t
 unfolding deliveredM deliveredHS deliveredVS apart fits
 tells M h t l =
     let at = after-trap M h t l in

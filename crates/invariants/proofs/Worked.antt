@@ -27,7 +27,7 @@ use Rattle.hart.specs.Access.{written, accessRow, access, read, write}
 use Rattle.invariants.proofs.Known.{Replay, _gives_, any-word, all-ones}
 
 -- a reset hart in a mode, at 1000, with some registers as they come in
-abbrev in-mode : (v privilege : ℕ) → List Write → Hart
+abbrev pub in-mode : (v privilege : ℕ) → List Write → Hart
 in-mode v p ws = record { v = v; privilege = p; pc = 0x1000; regs = reset v p 0 .regs with ws }
 
 -- all ones written to one register and then to another, in M; and what the first holds or the second shows

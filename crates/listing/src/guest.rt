@@ -25,14 +25,7 @@ fn put_reads(reads: [Read; PLACES], from: usize, out: &mut [u64])
     while i < PLACES {
         let r = reads[i];
         let at = r.address;
-        second_stage::put(
-            &mut *out,
-            from + 4 * i,
-            r.stage,
-            r.level,
-            at.0,
-            r.value,
-        );
+        second_stage::put(&mut *out, from + 4 * i, r.stage, r.level, at.0, r.value);
         i += 1;
     }
 }

@@ -1,6 +1,4 @@
-// The word layout of a translation: the kind of access by number, and the result written into a slice.
-pub mod guest;
-
+// The word layout of what has a list of reads: of a translation here, the kind of access by number, the result written into a slice.
 ghost use mathlib.Core.Path.{_≡_};
 ghost use mathlib.Core.List.{[], _∷_, _++_};
 ghost use lib.ListN.{length, drop};
@@ -13,6 +11,8 @@ use rules::Kind;
 use stages::PLACES;
 use translate::Answer;
 use translate::Start;
+
+pub mod guest;
 
 // Where the list begins, and how many words a translation's result takes.
 const LIST_AT: usize = 7;

@@ -1,8 +1,9 @@
-// The hypervisor loads and stores on a hart's words.
+// The C face of the hypervisor loads and stores, on a hart's words. Apart from the other calls so that each object has a walk of its own: the compiler
+// then makes one piece of a translation and its walk.
 ghost use mathlib.Core.Path.{_≡_};
 ghost use Rattle.hart.specs.Guest.{hlv, hlvx, hsv};
 ghost use Rattle.hart.specs.declared.state.Hart.{Hart};
-ghost use Rattle.exports.specs.Calls.{onLoad, onStore};
+ghost use Rattle.exports_guest.specs.Calls.{onLoad, onStore};
 
 // HLV.
 #[no_mangle]

@@ -1,6 +1,6 @@
 use borrow.Author.Needs.{needs}
-use Rattle.exports.proofs.guest.balcumentri_hlvx.Statement.{statement}
-use Rattle.exports.proofs.guest.balcumentri_hlvx.Tie as tie
+use Rattle.exports_guest.proofs.balcumentri_hlvx.Statement.{statement}
+use Rattle.exports_guest.proofs.balcumentri_hlvx.Tie as tie
 
 returns : tie.Need-returns
 returns c = rw (c .before .before .put-performed .ensures, c .before .before .before .before .hlvx .ensures, c .before .before .before .before .before .hart-of .ensures)

@@ -6,8 +6,8 @@ use Rattle.hart.specs.declared.guest.Performed.{Performed}
 use Rattle.layout.specs.Taken.{put}
 use Rattle.layout.proofs.Lengths.{hart-wrong, out-wrong, both-fit}
 use Rattle.listing.specs.Listing.{performed-size, performedWords}
-use Rattle.exports.proofs.guest.balcumentri_hsv.Statement.{statement}
-use Rattle.exports.proofs.guest.balcumentri_hsv.Tie as tie
+use Rattle.exports_guest.proofs.balcumentri_hsv.Statement.{statement}
+use Rattle.exports_guest.proofs.balcumentri_hsv.Tie as tie
 
 returns : tie.Need-returns
 returns c = rw (hart-wrong _ _ performed-size (c .if1 .taken))
