@@ -1,10 +1,8 @@
 // The hypervisor loads and stores: which there are, and the walk of their access, made for the guest.
 ghost use mathlib.Core.Path.{_≡_};
-ghost use mathlib.Core.Bool.{true};
 ghost use lib.ListN.{length};
 ghost use Rattle.walk.specs.Walked.{walked};
 ghost use Rattle.hypervisor.specs.Hypervisor.{kindOf, rightNeeded, offered, refusalOf, accessFor, walkFor};
-use access::Access;
 use effective::Paging;
 use privilege::Context;
 use rules::Kind;

@@ -10,7 +10,7 @@ use lib.ListN.{length, getD, take, drop, set}
 use lib.Pow.{pow-add, pow-mono, high}
 use lib.Seq.{drop-cons, sets}
 use borrow.Author.Tests.{leb-true, leb-false}
-use Rattle.bits.specs.Field.{bit, get, has}
+use Rattle.bits.specs.Field.{get, has}
 use Rattle.bits.proofs.Bools.{and-right}
 use Rattle.bits.proofs.Shifts.{one-up}
 use Rattle.image.specs.Data.{little, lowBytes, extended}

@@ -1,5 +1,5 @@
 -- What a store leaves, and what a load then finds. Assumes nothing.
-use mathlib.Core.Path.{_≡_, refl, sym, ap, _∙_}
+use mathlib.Core.Path.{_≡_, refl, ap, _∙_}
 use mathlib.Core.Bool.{Bool, true, false}
 use mathlib.Core.List.{List, [], _∷_, _++_, append-assoc}
 use mathlib.Core.Logic.{_⊎_, inl, inr}
@@ -9,7 +9,7 @@ use native.Mathlib.Omega.{arith}
 use lib.ListN.{length, getD, take, drop, set, length-set}
 use lib.Pow.{mod-pow-add, shr-shr}
 use lib.Seq.{sets, sets-eq, length-sets, getD-set-same, getD-set-other, drop-cons, drop-at, take-at, length-take-le}
-use Rattle.bits.specs.Field.{pick, get}
+use Rattle.bits.specs.Field.{pick}
 use Rattle.image.specs.declared.Entry.the-variants.{Value, Outside}
 use Rattle.image.specs.Image.{within, eight, entry}
 use Rattle.image.specs.Data.{little, lowBytes, bytesAt, stored}

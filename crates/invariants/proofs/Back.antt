@@ -7,7 +7,6 @@ use Prim.Native.Nat.{ℕ, _+_, _-_, _*_, _%_, _^_, _≤_}
 use native.Mathlib.Omega.{arith}
 use lib.Dec.{eqb}
 use lib.ListN.{length}
-use borrow.Author.Tests.{eqb-true, not-false}
 use Rattle.bits.specs.Field.{pick}
 use Rattle.bits.proofs.Bools.{clash}
 use Rattle.registers.specs.Places.{kept}
@@ -19,7 +18,6 @@ use Rattle.image.proofs.Memory.{stored-length, stored-loads, entry-apart}
 use Rattle.access.specs.declared.Access.{Access}
 use Rattle.access.specs.declared.Machine.{Machine}
 use Rattle.access.specs.Widths.{misaligned}
-use Rattle.access.specs.Faults.{misalignment}
 use Rattle.stages.specs.declared.Read.{Read}
 use Rattle.stages.specs.Tree.{Ran, run}
 use Rattle.stages.specs.Stages.{yields, faults, look, walkOf}
@@ -34,10 +32,9 @@ use Rattle.hart.specs.declared.event.Outcome.the-variants.{Done}
 use Rattle.hart.specs.declared.event.Stop.{Stop}
 use Rattle.hart.specs.declared.event.Stop.the-variants.{Goes, Halts}
 use Rattle.hart.specs.declared.guest.Reach.{Reach}
-use Rattle.hart.specs.declared.guest.Performed.{Performed}
 use Rattle.hart.specs.Hart.{context, paging, passes}
 use Rattle.hart.specs.Event.{isDone, refuses, raises, stopOf, moved}
-use Rattle.hart.specs.Guest.{ended, arrived, reachedBy, reach, performed, load, hlv, hsv}
+use Rattle.hart.specs.Guest.{ended, arrived, reachedBy, reach, load, hlv, hsv}
 use Rattle.invariants.specs.Events as events
 use Rattle.invariants.specs.Events.{run as run-event}
 use Rattle.invariants.proofs.Passing.{accepted-passes}

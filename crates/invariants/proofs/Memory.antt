@@ -1,40 +1,23 @@
 -- What hypervisor loads and stores do with the image's bytes. Assumes nothing.
 use mathlib.Core.Path.{_≡_, refl, sym, ap, _∙_}
-use mathlib.Core.Bool.{Bool, true, false, not}
-use mathlib.Core.List.{List, [], _∷_}
-use mathlib.Core.Logic.{_⊎_}
+use mathlib.Core.Bool.{Bool, true, false}
+use mathlib.Core.List.{List}
 use Prim.Native.Nat.{ℕ, _+_, _-_, _*_, _/_, _%_, _^_, _<_, _≤_}
 use native.Mathlib.Omega.{arith}
-use lib.Dec.{eqb}
 use lib.ListN.{length, getD}
 use Rattle.bits.specs.Field.{pick}
-use Rattle.bits.proofs.Bools.{clash}
-use Rattle.instructions.specs.Instructions.{hypervisorAccess}
-use Rattle.image.specs.Image.{within}
 use Rattle.image.specs.Data.{little, bytesAt, extended, loaded, stored}
 use Rattle.image.proofs.Tests.{within-facts}
-use Rattle.image.proofs.Memory.{Apart, stored-length, stored-apart, stored-byte, stored-loads, entry-apart, same-bytes}
-use Rattle.access.specs.declared.Access.{Access}
-use Rattle.access.specs.declared.Machine.{Machine}
-use Rattle.access.specs.Widths.{misaligned}
-use Rattle.stages.specs.declared.Read.{Read}
-use Rattle.stages.specs.Tree.{Ran, run}
-use Rattle.stages.specs.Stages.{yields, faults, look, walkOf}
-use Rattle.stages.specs.Through.{Each, Agree}
-use Rattle.stages.proofs.Images.{same-walk}
-use Rattle.stages.proofs.Follows.{loads-where-stores}
+use Rattle.image.proofs.Memory.{Apart, stored-length, stored-apart, stored-byte, same-bytes}
+use Rattle.stages.specs.Stages.{look}
+use Rattle.stages.specs.Through.{Agree}
 use Rattle.hypervisor.specs.declared.Operation.{Operation}
-use Rattle.hypervisor.specs.declared.Operation.the-variants.{Hlv, Hsv}
-use Rattle.hypervisor.specs.Hypervisor.{End, refusalOf, accessFor, walkFor}
+use Rattle.hypervisor.specs.declared.Operation.the-variants.{Hsv}
 use Rattle.hart.specs.declared.state.Hart.{Hart}
-use Rattle.hart.specs.declared.event.Outcome.the-variants.{Done}
-use Rattle.hart.specs.declared.event.Stop.{Stop}
-use Rattle.hart.specs.declared.event.Stop.the-variants.{Goes, Halts}
 use Rattle.hart.specs.declared.guest.Reach.{Reach}
 use Rattle.hart.specs.declared.guest.Performed.{Performed}
-use Rattle.hart.specs.Hart.{context, paging, passes}
-use Rattle.hart.specs.Event.{isDone, stopOf, moved}
-use Rattle.hart.specs.Guest.{ended, arrived, reachedBy, reach, performed, load, hlv, hsv}
+use Rattle.hart.specs.Event.{isDone}
+use Rattle.hart.specs.Guest.{reach, performed, load, hsv}
 use Rattle.hart.proofs.Reached.{done-inside}
 use Rattle.invariants.proofs.Reached.{listed, same-reach}
 

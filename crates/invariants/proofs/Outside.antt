@@ -1,19 +1,18 @@
 -- A hypervisor load or store makes the guest's access, and takes its faults outside the guest. Assumes nothing.
-use mathlib.Core.Path.{_≡_, refl, sym, ap, subst, _∙_}
+use mathlib.Core.Path.{_≡_, refl}
 use mathlib.Core.Bool.{Bool, true, false, _&&_, _||_, not}
-use mathlib.Core.List.{List, []}
+use mathlib.Core.List.{List}
 use mathlib.Core.Logic.{_⊎_, inl, inr}
 use Prim.Native.Nat.{ℕ, zero, suc, _%_, _<_}
 use native.Mathlib.Omega.{arith}
 use lib.Dec.{eqb}
 use lib.ListN.{length}
 use Rattle.bits.specs.Field.{pick, get, has}
-use Rattle.bits.proofs.Bools.{clash, and-left, and-right, or-false}
+use Rattle.bits.proofs.Bools.{and-left, and-right, or-false}
 use Rattle.bits.proofs.Fields.{get-lt}
-use Rattle.registers.specs.Fields.{MXR, MPRV, SPV, SPVP}
-use Rattle.registers.specs.Places.{kept, mstatus, hstatus, medeleg, hedeleg}
+use Rattle.registers.specs.Fields.{MXR, MPRV, SPVP}
+use Rattle.registers.specs.Places.{mstatus, hstatus}
 use Rattle.instructions.specs.Instructions.{hypervisorAccess}
-use Rattle.exceptions.specs.declared.Exception.{Exception}
 use Rattle.privilege.specs.declared.Context.{Context}
 use Rattle.registers.specs.File.{registersPass}
 use Rattle.privilege.specs.Mode.{amongFive, isSet}

@@ -1,6 +1,6 @@
 -- Demand 3 of the hypervisor loads and stores: their list is that of a walk made for the guest. Assumes nothing.
 use mathlib.Core.Path.{_≡_, refl, sym, ap, subst, _∙_}
-use mathlib.Core.Bool.{Bool, true, false, not}
+use mathlib.Core.Bool.{Bool, true, false, _||_, not}
 use mathlib.Core.List.{List, [], _∷_, _++_}
 use Prim.Native.Nat.{ℕ, suc, _+_, _-_, _*_, _%_, _<_, _≤_}
 use native.Mathlib.Nat.{mul-le-mul, zero-mul}
@@ -14,12 +14,13 @@ use Rattle.bits.proofs.Bools.{clash}
 use Rattle.registers.specs.Fields.{MXR}
 use Rattle.registers.specs.Places.{vsatp, hgatp, mstatus}
 use Rattle.privilege.specs.Mode.{isSet}
+use Rattle.privilege.specs.declared.Verdict.{Verdict}
 use Rattle.instructions.specs.Instructions.{hypervisorAccess}
+use Rattle.image.specs.Image.{unfit}
 use Rattle.rules.specs.declared.Right.{Right}
 use Rattle.access.specs.declared.Access.{Access}
-use Rattle.access.specs.declared.Machine.{Machine}
 use Rattle.access.specs.declared.Root.{Root}
-use Rattle.access.specs.Widths.{misaligned}
+use Rattle.access.specs.Widths.{known, misaligned}
 use Rattle.access.specs.Faults.{misalignment}
 use Rattle.access.proofs.Widths.{Aligned, a-power}
 use Rattle.stages.specs.declared.Read.{Read}
@@ -41,8 +42,9 @@ use Rattle.hart.specs.declared.event.Stop.{Stop}
 use Rattle.hart.specs.declared.event.Stop.the-variants.{Goes, Halts}
 use Rattle.hart.specs.declared.guest.Reach.{Reach}
 use Rattle.hart.specs.Hart.{reg, context, paging, passes}
-use Rattle.hart.specs.Event.{isDone, refused, raised, trapped, stopOf}
-use Rattle.hart.specs.Guest.{unwalked, arrived, reachedBy, reach}
+use Rattle.hart.specs.Event.{refusal, isDone, refused, raised, trapped, refuses, raises, stopOf}
+use Rattle.hart.specs.Guest.{ended, unwalked, arrived, reachedBy, reach}
+use Rattle.translate.specs.Translated.{firstRefusal}
 use Rattle.invariants.proofs.Settled.{stop-cases}
 
 -- the items listed: the places up to the count
@@ -86,6 +88,41 @@ module _ (h : Hart) (o : Operation) (base : ℕ) (bytes : List ℕ) (width addre
       goes : passes h ≡ true → refusalOf o base (length bytes) width ≡ 0 → (b : Bool) → misaligned (kindOf o) address width ≡ b → P (arrived h (pick b (misaligned-one accessed) ran))
       goes p own true e = u (trapped h (misalignment accessed)) refl
       goes p own false e = w p (a-power address width (taken o base (length bytes) width own .form) (whole o address width e))
+
+  -- what it comes to once nothing of its own stopped it is no refusal
+  not-refused : (e : End) → refusal (ended h e .outcome) ≡ 0
+  not-refused (yields m) = refl
+  not-refused (faults f) = refl
+
+  -- "refusal 2, 1, 3 (width not 1, 2, 4, 8; HLVX of 1 or 8)": it is refused exactly by the first of these
+  pub refused-by : refusal (r .outcome) ≡ firstRefusal ((not (passes h), 2) ∷ (unfit base (length bytes), 1) ∷ (not (byOperation o (known width) (eqb width 2 || eqb width 4) (known width)), 3) ∷ [])
+  unfolding reach refusalOf
+  refused-by = go (not (passes h)) (unfit base (length bytes)) (not (byOperation o (known width) (eqb width 2 || eqb width 4) (known width)))
+    where
+      v : Verdict
+      v = hypervisorAccess (context h)
+
+      last : (a b : Bool) → refusal (reachedBy (pick a (raises 2) (pick b (raises 22) Goes)) h word (walkFor base bytes accessed) .outcome) ≡ 0
+      last true b = refl
+      last false true = refl
+      last false false = not-refused (walkFor base bytes accessed .end)
+
+      go : (a b c : Bool) → let own : ℕ = pick b 1 (pick c 3 0) in
+          refusal (reachedBy (pick a (refuses 2) (pick (not (eqb own 0)) (refuses own) (pick (v .gives2) (raises 2) (pick (v .gives22) (raises 22) Goes)))) h word (walkFor base bytes accessed) .outcome) ≡ firstRefusal ((a, 2) ∷ (b, 1) ∷ (c, 3) ∷ [])
+      go true b c = refl
+      go false true c = refl
+      go false false true = refl
+      go false false false = last (v .gives2) (v .gives22)
+
+  -- a refusal leaves the hart as given and the list empty
+  pub refusal-empty : 0 < refusal (r .outcome) → r ≡ unwalked (refused h (refusal (r .outcome)))
+  unfolding reach
+  refusal-empty = go (stopOf h (refusalOf o base (length bytes) width) (hypervisorAccess (context h)))
+    where
+      go : (s : Stop) → let x = reachedBy s h word (walkFor base bytes accessed) in 0 < refusal (x .outcome) → x ≡ unwalked (refused h (refusal (x .outcome)))
+      go Goes l = absurd (omega (arith, l, not-refused (walkFor base bytes accessed .end)))
+      go (Halts true n) l = refl
+      go (Halts false n) l = absurd (omega (arith, l))
 
   -- n first-stage levels over m second-stage levels: at most (n + 1) (m + 1) - 1 reads
   count-bound : r .count ≤ accessed .first .levels * suc (accessed .second .levels) + accessed .second .levels

@@ -1,5 +1,5 @@
 -- Where a walk that ends with an address ends. Assumes nothing.
-use mathlib.Core.Path.{_≡_, refl, sym, ap, subst, _∙_}
+use mathlib.Core.Path.{_≡_, refl, sym, ap, _∙_}
 use mathlib.Core.Bool.{Bool, true, false}
 use Prim.Native.Nat.{ℕ}
 use Rattle.bits.specs.Field.{pick}
@@ -7,7 +7,6 @@ use Rattle.bits.proofs.Bools.{clash}
 use Rattle.image.specs.declared.Entry.{Entry}
 use Rattle.image.specs.Image.{within}
 use Rattle.access.specs.declared.Access.{Access}
-use Rattle.access.specs.declared.Guest.{Guest}
 use Rattle.access.specs.declared.Machine.{Machine}
 use Rattle.access.specs.Needs.{secondNeed}
 use Rattle.access.specs.Faults.{accessFault, guestPageFault}

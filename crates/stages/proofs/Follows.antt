@@ -26,7 +26,7 @@ use Rattle.access.specs.declared.Root.{Root}
 use Rattle.access.specs.Needs.{needOf, firstNeed, secondNeed, entryNeed}
 use Rattle.access.specs.Faults.{accessFault, pageFault, guestPageFault, entryFault}
 use Rattle.stages.specs.Tree.{Walk, done, ask, bind, item, listed, found, run}
-use Rattle.stages.specs.Stages.{Result, yields, faults, _then_, Translation, slot, follow, inspect, down, begin, translation, guest, machine, second-of, first-of, last, final, walkOf}
+use Rattle.stages.specs.Stages.{Result, yields, faults, _then_, Translation, follow, inspect, down, begin, translation, guest, machine, last, final, walkOf}
 
 -- one walk asks what another does, and ends as it does unless that one faults
 pub data Follows {A : Type 0} : Walk (Result A) → Walk (Result A) → Type 0 where

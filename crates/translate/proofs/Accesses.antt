@@ -2,17 +2,13 @@
 use mathlib.Core.Path.{_≡_, refl, sym, subst}
 use mathlib.Core.Bool.{Bool, true, false, _||_, not}
 use mathlib.Core.List.{List, [], _∷_}
-use Prim.Native.Nat.{ℕ, _+_, _-_, _%_, _^_, _<_, _≤_}
+use Prim.Native.Nat.{ℕ, _+_, _-_, _%_, _^_, _≤_}
 use native.Mathlib.Omega.{arith}
-use lib.Bits.{bitAnd, and-mask}
 use lib.Dec.{eqb}
 use lib.ListN.{length}
 use borrow.Author.Tests.{eqb-true, not-false}
 use Rattle.bits.specs.Field.{pick}
-use Rattle.bits.proofs.Bools.{clash, pick-both, or-true, or-false, or-left, or-right}
-use Rattle.bits.proofs.Fields.{get-lt}
-use Rattle.registers.specs.Fields.{PPN}
-use Rattle.registers.specs.Places.{satp, vsatp, hgatp}
+use Rattle.bits.proofs.Bools.{clash, or-true, or-false, or-left, or-right}
 use Rattle.hart.specs.declared.state.Hart.{Hart}
 use Rattle.hart.specs.Hart.{context, paging, passes}
 use Rattle.image.specs.Image.{unfit}
@@ -22,7 +18,6 @@ use Rattle.rules.specs.declared.Kind.the-variants.{Fetch, Load, Store}
 use Rattle.rules.specs.Kind.{by}
 use Rattle.access.specs.declared.Access.{Access}
 use Rattle.access.specs.declared.Machine.{Machine}
-use Rattle.access.specs.declared.Root.{Root}
 use Rattle.access.specs.Widths.{known, misaligned}
 use Rattle.access.specs.Faults.{misalignment}
 use Rattle.access.proofs.Widths.{Aligned, a-power}

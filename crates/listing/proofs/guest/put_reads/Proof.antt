@@ -5,7 +5,6 @@ use native.Mathlib.Nat.{add-zero}
 use native.Mathlib.Omega.{arith}
 use lib.ListN.{length, drop, drop-of-length-le}
 use lib.Seq.{sets}
-use denote.Ref.{now}
 use borrow.Author.Needs.{needs}
 use Rattle.stages.specs.Listed.{places, readWords}
 use Rattle.listing.proofs.Words.{place-written}

@@ -1,5 +1,4 @@
 use mathlib.Core.Path.{sym, _∙_}
-use mathlib.Core.Bool.{true}
 use borrow.Author.Needs.{needs}
 use borrow.Author.Tests.{not-true, not-false}
 use Rattle.hart.specs.Guest.{hsv}
