@@ -168,8 +168,8 @@ impl Hart {
         ensures { λ r. ⌜ (r, now (bytes .exit)) ≡ hsv self base (now (bytes .entry)) width address value word ⌝ }
     {
         let r = self.reach(Operation::Hsv, base, &*bytes, width, address, word);
-        let outcome = r.outcome;
-        if !outcome.is_done() {
+        let ended = r.outcome;
+        if !ended.is_done() {
             return answer(r, 0);
         }
         image::data::store(base, &mut *bytes, r.at, width, value);

@@ -88,9 +88,10 @@ pub fn hfence_gvma(c: Context) -> Verdict
 pub fn hypervisor_access(c: Context) -> Verdict
     ensures { λ r. ⌜ r ≡ hypervisorAccess c ⌝ }
 {
-    let illegal = c.is_u() & !(HU.get(c.hstatus) == 1);
+    let denied = c.is_u() & !(HU.get(c.hstatus) == 1);
+    let virtual_mode = c.v == 1;
     Verdict {
-        gives2: illegal,
-        gives22: c.v == 1,
+        gives2: denied,
+        gives22: virtual_mode,
     }
 }
