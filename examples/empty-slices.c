@@ -11,7 +11,7 @@
 #include "balcumentri.h"
 
 static uint64_t hart[BALCUMENTRI_HART_WORDS];
-static uint64_t out[BALCUMENTRI_TRANSLATION_WORDS];
+static uint64_t out[BALCUMENTRI_GUEST_WORDS];
 
 /* A call by its name, its result's words, and the arguments that stand between the two slices, each with its comma. */
 #define TRY(name, words, ...)                                                                                       \
@@ -35,6 +35,14 @@ static void access_nothing(const char *name, uint64_t kind)
                                               BALCUMENTRI_TRANSLATION_WORDS);
     printf("%s returned %" PRIu64 ": %s %" PRIu64 ", %" PRIu64 " reads\n", name, returned,
            out[0] == BALCUMENTRI_FAULT ? "fault" : "no fault", out[1], out[6]);
+}
+
+/* What a hypervisor load or store over no bytes came to. */
+static void guest_access(const char *name, uint64_t returned)
+{
+    printf("%s returned %" PRIu64 ": %s %" PRIu64 ", %" PRIu64 " reads\n", name, returned,
+           out[BALCUMENTRI_HART_WORDS] == BALCUMENTRI_TRAPPED ? "trapped" : "not trapped", out[BALCUMENTRI_HART_WORDS + 1],
+           out[BALCUMENTRI_ACCESS_WORDS]);
 }
 
 static void access_in(const char *mode)
@@ -66,13 +74,22 @@ int main(void)
     TRY(hfence_vvma, BALCUMENTRI_STEP_WORDS, 0, );
     TRY(hfence_gvma, BALCUMENTRI_STEP_WORDS, 0, );
     TRY(interrupt, BALCUMENTRI_STEP_WORDS, );
+    TRY(hlv, BALCUMENTRI_GUEST_WORDS, 0x1000, NULL, 0, 4, false, 0x1000, 0, );
+    TRY(hlvx, BALCUMENTRI_GUEST_WORDS, 0x1000, NULL, 0, 4, 0x1000, 0, );
+    TRY(hsv, BALCUMENTRI_GUEST_WORDS, 0x1000, NULL, 0, 4, 0x1000, 0, 0, );
 
     uint64_t written = 0;
-    for (size_t i = 0; i < BALCUMENTRI_TRANSLATION_WORDS; i++)
+    for (size_t i = 0; i < BALCUMENTRI_GUEST_WORDS; i++)
         written |= out[i];
     printf("written %" PRIu64 "\n", written);
 
     access_in("M");
+    guest_access("hlv", balcumentri_hlv(hart, BALCUMENTRI_HART_WORDS, 0x1000, NULL, 0, 4, false, 0x1000, 0, out,
+                                        BALCUMENTRI_GUEST_WORDS));
+    guest_access("hlvx", balcumentri_hlvx(hart, BALCUMENTRI_HART_WORDS, 0x1000, NULL, 0, 4, 0x1000, 0, out,
+                                          BALCUMENTRI_GUEST_WORDS));
+    guest_access("hsv", balcumentri_hsv(hart, BALCUMENTRI_HART_WORDS, 0x1000, NULL, 0, 4, 0x1000, 0, 0, out,
+                                        BALCUMENTRI_GUEST_WORDS));
     write_register(0x280, UINT64_C(0x8000000000000001)); /* vsatp */
     write_register(0x680, UINT64_C(0x8000000000000000)); /* hgatp */
     hart[0] = 1;                                         /* V */

@@ -3,7 +3,7 @@
  * Link with target/staticlib/libexports.a, which `rust/build library` makes. The library keeps no state and allocates nothing.
  *
  * A slice is a pointer and the number of its words (or bytes). Where the number is 0 nothing is read or written through the
- * pointer, which may be null. The slices of one call do not overlap.
+ * pointer, which may be null. The slices of one call do not overlap. The image's bytes are written by balcumentri_hsv alone.
  *
  * What a call with slices returns:
  *   BALCUMENTRI_WRITTEN       the result is in out
@@ -33,9 +33,15 @@
  *   7 to 66   fifteen places of four words, in the order of the reads: stage (1 first, 2 second), level, machine address, value;
  *             unused places are 0
  *
- * A register access, a return, WFI and a fence take the word of their instruction: its 32 bits, as they were recorded. Where the
- * event traps with cause 2 or 22 the trap's value is the word, zero-extended: mtval, stval or vstval holds it then. Else the word
- * is not looked at. It need not fit the event, since nothing decodes it. (A trap request's word is what mtinst or htinst takes.)
+ * A hypervisor load's or store's result, 98 words: an event's, and
+ *   36        the value loaded, extended to 64 bits; 0 of a store, and where the event trapped or was refused
+ *   37        how many entries were read
+ *   38 to 97  fifteen places of four words, as a translation's
+ *
+ * A register access, a return, WFI, a fence and a hypervisor load or store take the word of their instruction: its 32 bits, as they
+ * were recorded. Where the event traps with cause 2 or 22 the trap's value is the word, zero-extended: mtval, stval or vstval holds
+ * it then. Else the word is not looked at. It need not fit the event, since nothing decodes it. (A trap request's word is what
+ * mtinst or htinst takes.)
  */
 #ifndef BALCUMENTRI_H
 #define BALCUMENTRI_H
@@ -56,6 +62,7 @@ extern "C" {
 #define BALCUMENTRI_STEP_WORDS 36
 #define BALCUMENTRI_ACCESS_WORDS 37
 #define BALCUMENTRI_TRANSLATION_WORDS 67
+#define BALCUMENTRI_GUEST_WORDS 98
 
 /* What an event or a translation came to. */
 #define BALCUMENTRI_DONE 0
@@ -82,6 +89,17 @@ uint64_t balcumentri_passes(const uint64_t *hart, size_t hart_words, uint64_t *o
 /* The translation of an access over an image: bytes from the machine address base on. out: 67 words. */
 uint64_t balcumentri_translate(const uint64_t *hart, size_t hart_words, uint64_t base, const uint8_t *bytes, size_t length,
                                uint64_t kind, uint64_t address, uint64_t width, uint64_t *out, size_t out_words);
+
+/* The hypervisor loads and stores HLV, HLVX and HSV of 1, 2, 4 or 8 bytes (HLVX: 2 or 4) over an image, at a guest's virtual
+ * address: translated as V=1 with privilege hstatus.SPVP. A fault is delivered as a trap of the hart's own mode. HLV sign-extends
+ * what it loads where its flag says so, HLVX never does. HSV stores the low bytes of the value into the image, little-endian, where
+ * it is done; else the image stays as it is. out: 98 words. */
+uint64_t balcumentri_hlv(const uint64_t *hart, size_t hart_words, uint64_t base, const uint8_t *bytes, size_t length,
+                         uint64_t width, bool is_signed, uint64_t address, uint32_t word, uint64_t *out, size_t out_words);
+uint64_t balcumentri_hlvx(const uint64_t *hart, size_t hart_words, uint64_t base, const uint8_t *bytes, size_t length,
+                          uint64_t width, uint64_t address, uint32_t word, uint64_t *out, size_t out_words);
+uint64_t balcumentri_hsv(const uint64_t *hart, size_t hart_words, uint64_t base, uint8_t *bytes, size_t length, uint64_t width,
+                         uint64_t address, uint64_t value, uint32_t word, uint64_t *out, size_t out_words);
 
 /* Register access by number. A set or a clear writes where its flag says so. out: 37 words. */
 uint64_t balcumentri_read(const uint64_t *hart, size_t hart_words, uint64_t number, uint32_t word, uint64_t *out,

@@ -1,4 +1,4 @@
-//! Links the proved library, which `rust/build library` has rt write into the repository's target/staticlib/.
+//! Links the proved library, which `rust/build library` makes in the repository's target/staticlib/.
 
 use std::path::Path;
 

@@ -45,6 +45,7 @@ use Rattle.hart.specs.Hart.{reg, context, paging, passes}
 use Rattle.hart.specs.Event.{refusal, isDone, refused, raised, trapped, refuses, raises, stopOf}
 use Rattle.hart.specs.Guest.{ended, unwalked, arrived, reachedBy, reach}
 use Rattle.translate.specs.Translated.{firstRefusal}
+use Rattle.translate.proofs.Demand.{not-empty}
 use Rattle.invariants.proofs.Settled.{stop-cases}
 
 -- the items listed: the places up to the count
@@ -62,10 +63,6 @@ whole : (o : Operation) (address width : ℕ) → misaligned (kindOf o) address 
 whole Hlv address width e = eqb-true _ _ (not-false _ e)
 whole Hlvx address width e = eqb-true _ _ (not-false _ e)
 whole Hsv address width e = eqb-true _ _ (not-false _ e)
-
-not-empty : {P : Type 0} (earlier : List Read) (x : Read) (later : List Read) → _≡_ {A = List Read} [] (earlier ++ (x ∷ later)) → P
-not-empty [] x later e = clash (cc)
-not-empty (y ∷ ys) x later e = clash (cc)
 
 module _ (h : Hart) (o : Operation) (base : ℕ) (bytes : List ℕ) (width address word : ℕ) where
   -- the access made for the guest, and its walk over the image

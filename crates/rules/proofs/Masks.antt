@@ -100,7 +100,7 @@ some-of n e = go (n .right) (n .mxr)
 abbrev pub coded : Right → (user sum mxr : Bool) → Test
 coded r user sum mxr =
     record {
-      mask = bitOr (bitOr 0xFFC0000000000041 (byRight r 0 0x80 0)) (pick (user || not sum) 0x10 0);
+      mask = bitOr (bitOr 0xFFC0000000000041 (byRight r 0 0x80 0)) (pick user 0x10 (pick sum 0 0x10));
       bits = bitOr (bitOr 0x41 (byRight r 0 0x80 0)) (pick user 0x10 0);
       some = byRight r (pick mxr 0x0A 0x02) 0x04 0x08;
     }

@@ -17,11 +17,11 @@ pub enum Kind {
     Store,
 }
 
-// The rights that a leaf grants by R, W and X.
+// The rights that a leaf grants by X, R and W: in the order of the kinds, so that a kind's own right is the same number.
 pub enum Right {
+    Execute,
     Read,
     Write,
-    Execute,
 }
 
 // What an access asks of a leaf: its right, and what U goes by.
@@ -86,13 +86,14 @@ impl Need {
     {
         let right = self.right;
         let user = self.user;
-        let d = right.mask(0, 0x80, 0);
-        let u = select(user | !(!self.fetch & self.sum), 0x10, 0);
         let read = select(self.mxr, 0x0A, 0x02);
+        let some = right.mask(read, 0x04, 0x08);
+        let d = right.mask(0, 0x80, 0);
+        let u = select(user, 0x10, select(!self.fetch & self.sum, 0, 0x10));
         Test {
             mask: 0xFFC0_0000_0000_0041 | d | u,
             bits: 0x41 | d | select(user, 0x10, 0),
-            some: right.mask(read, 0x04, 0x08),
+            some,
         }
     }
 }

@@ -49,7 +49,8 @@ listed t = take (t .count) (t .reads)
 listed-walk : (h : Hart) (r : Ran (Result Machine)) → listed (walkedTo h r) ≡ r .reads
 listed-walk h r = take-append-seam (r .reads) (unused (places - length (r .reads)))
 
-not-empty : {P : Type 0} (earlier : List Read) (x : Read) (later : List Read) → _≡_ {A = List Read} [] (earlier ++ (x ∷ later)) → P
+-- no item is of the empty list
+pub not-empty : {P : Type 0} (earlier : List Read) (x : Read) (later : List Read) → _≡_ {A = List Read} [] (earlier ++ (x ∷ later)) → P
 not-empty [] x later e = clash (cc)
 not-empty (y ∷ ys) x later e = clash (cc)
 

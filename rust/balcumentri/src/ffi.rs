@@ -7,7 +7,7 @@
 #[cfg(test)]
 mod agreement;
 
-use crate::translation::{Image, Read};
+use crate::translation::{Image, ImageMut, Read};
 
 /// How many registers a hart keeps.
 pub const KEPT: usize = 31;
@@ -24,6 +24,13 @@ pub type HartWords = [u64; HART];
 pub type StepWords = [u64; STEP];
 /// A register access's result.
 pub type AccessWords = [u64; ACCESS];
+/// A list of reads: how many there are, and its places.
+#[derive(Clone, Copy, Debug, Default)]
+#[repr(C)]
+pub struct List {
+    pub count: u64,
+    pub places: [Read; PLACES],
+}
 /// A translation's result, by name.
 #[derive(Clone, Copy, Debug, Default)]
 #[repr(C)]
@@ -34,12 +41,24 @@ pub struct TranslationWords {
     pub second: u64,
     pub word: u64,
     pub flag: u64,
-    pub count: u64,
-    pub places: [Read; PLACES],
+    pub list: List,
+}
+/// A hypervisor load's or store's result, by name.
+#[derive(Clone, Copy)]
+#[repr(C)]
+pub struct GuestWords {
+    pub hart: HartWords,
+    pub kind: u64,
+    pub number: u64,
+    pub value: u64,
+    pub list: List,
 }
 
-const TRANSLATION_WORDS: usize = 7 + 4 * PLACES;
+const LIST: usize = 1 + 4 * PLACES;
+const TRANSLATION_WORDS: usize = 6 + LIST;
+const GUEST: usize = ACCESS + LIST;
 const _: () = assert!(size_of::<TranslationWords>() == 8 * TRANSLATION_WORDS);
+const _: () = assert!(size_of::<GuestWords>() == 8 * GUEST);
 
 /// A call of the face that takes a hart alone.
 type Plain = unsafe extern "C" fn(*const u64, usize, *mut u64, usize) -> u64;
@@ -61,6 +80,44 @@ extern "C" {
         kind: u64,
         address: u64,
         width: u64,
+        out: *mut u64,
+        size: usize,
+    ) -> u64;
+    fn balcumentri_hlv(
+        hart: *const u64,
+        words: usize,
+        base: u64,
+        bytes: *const u8,
+        length: usize,
+        width: u64,
+        is_signed: bool,
+        address: u64,
+        word: u32,
+        out: *mut u64,
+        size: usize,
+    ) -> u64;
+    fn balcumentri_hlvx(
+        hart: *const u64,
+        words: usize,
+        base: u64,
+        bytes: *const u8,
+        length: usize,
+        width: u64,
+        address: u64,
+        word: u32,
+        out: *mut u64,
+        size: usize,
+    ) -> u64;
+    fn balcumentri_hsv(
+        hart: *const u64,
+        words: usize,
+        base: u64,
+        bytes: *mut u8,
+        length: usize,
+        width: u64,
+        address: u64,
+        value: u64,
+        word: u32,
         out: *mut u64,
         size: usize,
     ) -> u64;
@@ -247,6 +304,72 @@ pub fn translate_into(
         )
     };
     expect_written(code);
+}
+
+/// What a hypervisor load or store writes, which is lent a hart and room for its result.
+fn of_guest(
+    hart: &HartWords,
+    call: impl FnOnce(*const u64, usize, *mut u64, usize) -> u64,
+) -> GuestWords {
+    let mut out = GuestWords {
+        hart: [0; HART],
+        kind: 0,
+        number: 0,
+        value: 0,
+        list: List::default(),
+    };
+    let words: *mut GuestWords = &mut out;
+    expect_written(call(hart.as_ptr(), hart.len(), words.cast(), GUEST));
+    out
+}
+
+/// HLV.
+pub fn hlv(
+    hart: &HartWords,
+    image: Image<'_>,
+    width: u64,
+    signed: bool,
+    address: u64,
+    word: u32,
+) -> GuestWords {
+    let Image { base, bytes } = image;
+    let (at, length) = (bytes.as_ptr(), bytes.len());
+    // SAFETY: hart, the bytes and out are lent for the call, each with its own length; out is a local of `of_guest`, so it overlaps
+    // neither. It is so many words by its layout and the assertion on its size, and any words are a value of it.
+    of_guest(hart, |h, words, out, size| unsafe {
+        balcumentri_hlv(
+            h, words, base, at, length, width, signed, address, word, out, size,
+        )
+    })
+}
+
+/// HLVX.
+pub fn hlvx(hart: &HartWords, image: Image<'_>, width: u64, address: u64, word: u32) -> GuestWords {
+    let Image { base, bytes } = image;
+    let (at, length) = (bytes.as_ptr(), bytes.len());
+    // SAFETY: as in `hlv`.
+    of_guest(hart, |h, words, out, size| unsafe {
+        balcumentri_hlvx(h, words, base, at, length, width, address, word, out, size)
+    })
+}
+
+/// HSV.
+pub fn hsv(
+    hart: &HartWords,
+    image: &mut ImageMut<'_>,
+    width: u64,
+    address: u64,
+    value: u64,
+    word: u32,
+) -> GuestWords {
+    let ImageMut { base, bytes } = image;
+    let (at, length) = (bytes.as_mut_ptr(), bytes.len());
+    // SAFETY: as in `hlv`; the bytes are lent mutably, so they don't overlap the hart either.
+    of_guest(hart, |h, words, out, size| unsafe {
+        balcumentri_hsv(
+            h, words, *base, at, length, width, address, value, word, out, size,
+        )
+    })
 }
 
 /// Reads a register.

@@ -1,7 +1,7 @@
 //! The hart and its events.
 
-use crate::ffi::{self, AccessWords, HartWords, StepWords};
-use crate::translation::{Access, Fault, Image, Translation};
+use crate::ffi::{self, AccessWords, GuestWords, HartWords, List, StepWords};
+use crate::translation::{Access, Fault, Image, ImageMut, Read, Translation};
 
 /// What an event came to.
 #[derive(Clone, Copy, Debug, PartialEq, Eq)]
@@ -25,6 +25,23 @@ pub struct Accessed {
     pub value: u64,
 }
 
+/// What a hypervisor load or store came to, the value that it loaded, and the entries read for it.
+#[derive(Clone, Copy, Debug)]
+pub struct GuestAccessed {
+    /// Done, trapped or refused.
+    pub outcome: Outcome,
+    /// The value loaded, extended to 64 bits; 0 of a store, and where it was not done.
+    pub value: u64,
+    list: List,
+}
+
+impl GuestAccessed {
+    /// The entries, in the order in which they were read.
+    pub fn reads(&self) -> &[Read] {
+        self.list.reads()
+    }
+}
+
 /// A hart: V, privilege, pc and the registers. An event leaves the next hart in its place.
 ///
 /// ```
@@ -36,9 +53,9 @@ pub struct Accessed {
 /// assert_eq!(hart.read(0x342, 0x3420_2573).value, 11);
 /// ```
 ///
-/// A register access, a return, WFI and a fence take the word of their instruction: its 32 bits, as they were recorded. Where the
-/// event traps with cause 2 or 22 the word is the trap's value, which mtval, stval or vstval then holds; else it is not looked at.
-/// It need not fit the event, since nothing decodes it.
+/// A register access, a return, WFI, a fence and a hypervisor load or store take the word of their instruction: its 32 bits, as
+/// they were recorded. Where the event traps with cause 2 or 22 the word is the trap's value, which mtval, stval or vstval then
+/// holds; else it is not looked at. It need not fit the event, since nothing decodes it.
 ///
 /// ```
 /// use balcumentri::{Hart, Outcome};
@@ -204,6 +221,81 @@ impl Hart {
         self.stepped(ffi::hfence_gvma(&self.words, word))
     }
 
+    /// HLV: loads bytes at a guest's virtual address, translated as V=1 with privilege hstatus.SPVP. They are sign-extended to 64
+    /// bits, or zero-extended. A fault is delivered as a trap.
+    ///
+    /// ```
+    /// use balcumentri::{Hart, Image, Outcome};
+    ///
+    /// let mut bytes = vec![0; 0x1000];
+    /// bytes[0x10..0x12].copy_from_slice(&[0xfe, 0xff]);
+    /// let image = Image { base: 0x8000_0000, bytes: &bytes };
+    /// let mut hart = Hart::new(0, 1, 0x1000); // HS; vsatp and hgatp are Bare
+    /// let loaded = hart.hlv(image, 2, true, 0x8000_0010, 0x6405_4573); // HLV.H
+    /// assert_eq!((loaded.outcome, loaded.value as i64), (Outcome::Done, -2));
+    /// assert_eq!(hart.hlv(image, 2, false, 0x8000_0010, 0x6415_4573).value, 0xfffe); // HLV.HU
+    /// assert_eq!(hart.pc(), 0x1008);
+    ///
+    /// let outside = hart.hlv(image, 8, true, 0x8000_1000, 0x6c05_4573); // HLV.D
+    /// assert_eq!((outside.outcome, outside.value), (Outcome::Trapped(5), 0));
+    /// ```
+    pub fn hlv(
+        &mut self,
+        image: Image<'_>,
+        width: u64,
+        signed: bool,
+        address: u64,
+        word: u32,
+    ) -> GuestAccessed {
+        self.reached(ffi::hlv(&self.words, image, width, signed, address, word))
+    }
+
+    /// HLVX: the same for 2 or 4 bytes, zero-extended, of pages that need X in place of R.
+    ///
+    /// ```
+    /// use balcumentri::{Hart, Image, Outcome};
+    ///
+    /// let mut bytes = vec![0; 0x5000];
+    /// bytes[0] = 0x59; // a leaf of 1 GiB: V, X, U, A
+    /// bytes[0x4000] = 0x73;
+    /// let image = Image { base: 0, bytes: &bytes };
+    /// let mut hart = Hart::new(0, 1, 0x1000); // HS
+    /// assert!(hart.put_register(0x680, 8 << 60)); // hgatp: Sv39x4, root at 0
+    /// let loaded = hart.hlvx(image, 4, 0x4000, 0x6835_4573); // HLVX.WU
+    /// assert_eq!((loaded.outcome, loaded.value), (Outcome::Done, 0x73));
+    /// assert_eq!(loaded.reads().len(), 1);
+    /// assert_eq!(hart.hlv(image, 4, false, 0x4000, 0x6815_4573).outcome, Outcome::Trapped(21)); // HLV.WU
+    /// ```
+    pub fn hlvx(&mut self, image: Image<'_>, width: u64, address: u64, word: u32) -> GuestAccessed {
+        self.reached(ffi::hlvx(&self.words, image, width, address, word))
+    }
+
+    /// HSV: stores the low bytes of a value, little-endian, at a guest's virtual address, translated as of [`Hart::hlv`]. It is the
+    /// one call that writes the image, and writes it only where it is done.
+    ///
+    /// ```
+    /// use balcumentri::{Hart, ImageMut, Outcome};
+    ///
+    /// let mut bytes = vec![0; 0x1000];
+    /// let mut image = ImageMut { base: 0x8000_0000, bytes: &mut bytes };
+    /// let mut hart = Hart::new(0, 1, 0x1000); // HS; vsatp and hgatp are Bare
+    /// let stored = hart.hsv(&mut image, 4, 0x8000_0010, 0x1234_5678, 0x6ab5_4073); // HSV.W
+    /// assert_eq!(stored.outcome, Outcome::Done);
+    /// let loaded = hart.hlv(image.as_image(), 2, false, 0x8000_0012, 0x6415_4573); // HLV.HU
+    /// assert_eq!(loaded.value, 0x1234);
+    /// assert_eq!(bytes[0x10..0x15], [0x78, 0x56, 0x34, 0x12, 0]);
+    /// ```
+    pub fn hsv(
+        &mut self,
+        image: &mut ImageMut<'_>,
+        width: u64,
+        address: u64,
+        value: u64,
+        word: u32,
+    ) -> GuestAccessed {
+        self.reached(ffi::hsv(&self.words, image, width, address, value, word))
+    }
+
     /// Takes the interrupt that is due. Done: none was, and the hart is as it was.
     ///
     /// ```
@@ -223,6 +315,15 @@ impl Hart {
     fn stepped(&mut self, result: StepWords) -> Outcome {
         self.words.copy_from_slice(&result[..ffi::HART]);
         outcome(result[ffi::HART], result[ffi::HART + 1])
+    }
+
+    fn reached(&mut self, result: GuestWords) -> GuestAccessed {
+        self.words = result.hart;
+        GuestAccessed {
+            outcome: outcome(result.kind, result.number),
+            value: result.value,
+            list: result.list,
+        }
     }
 
     fn accessed(&mut self, result: AccessWords) -> Accessed {
@@ -252,8 +353,20 @@ fn index(number: u64) -> Option<usize> {
 mod tests {
     use super::*;
 
-    /// Every event that takes a word, on a number that no register has.
-    const WORDED: [fn(&mut Hart, u32) -> Outcome; 10] = [
+    const EMPTY: Image<'static> = Image {
+        base: 0,
+        bytes: &[],
+    };
+
+    /// A store over no bytes.
+    fn hsv(hart: &mut Hart, word: u32) -> Outcome {
+        let (base, bytes): (u64, &mut [u8]) = (0, &mut []);
+        hart.hsv(&mut ImageMut { base, bytes }, 8, 0, 0, word)
+            .outcome
+    }
+
+    /// Every event that takes a word, on a number that no register has, or on an empty image.
+    const WORDED: [fn(&mut Hart, u32) -> Outcome; 13] = [
         |hart, word| hart.read(0xfff, word).outcome,
         |hart, word| hart.write(0xfff, 1, word).outcome,
         |hart, word| hart.set(0xfff, 1, true, word).outcome,
@@ -264,6 +377,9 @@ mod tests {
         Hart::sfence_vma,
         Hart::hfence_vvma,
         Hart::hfence_gvma,
+        |hart, word| hart.hlv(EMPTY, 8, true, 0, word).outcome,
+        |hart, word| hart.hlvx(EMPTY, 4, 0, word).outcome,
+        hsv,
     ];
 
     #[test]
@@ -284,6 +400,103 @@ mod tests {
             let mut hart = Hart::new(0, 0, 2);
             assert_eq!(event(&mut hart, 7), Outcome::Refused(2));
             assert_eq!(hart, Hart::new(0, 0, 2));
+        }
+    }
+    const BASE: u64 = 0x8000_0000;
+
+    /// The second stage's root with a leaf of 1 GiB at the image's base, and a page behind it.
+    fn bytes(leaf: u64) -> Vec<u8> {
+        let mut bytes = vec![0; 0x5000];
+        bytes[..8].copy_from_slice(&(BASE >> 2 | leaf).to_le_bytes());
+        bytes
+    }
+
+    /// A hart in HS whose guest's second stage is on.
+    fn hypervisor() -> Hart {
+        let mut hart = Hart::new(0, 1, 0x1000);
+        assert!(hart.put_register(0x680, 8 << 60 | BASE >> 12));
+        hart
+    }
+
+    #[test]
+    fn every_width_is_stored_and_loaded_back() {
+        let mut bytes = bytes(0xdf);
+        let before = bytes.clone();
+        let mut image = ImageMut {
+            base: BASE,
+            bytes: &mut bytes,
+        };
+        let value = 0xf0e1_d2c3_b4a5_9687_u64;
+        for width in [1, 2, 4, 8] {
+            let (mut hart, at) = (hypervisor(), 0x4000 + 8 * width);
+            let stored = hart.hsv(&mut image, width, at, value, 0);
+            assert_eq!((stored.outcome, stored.value), (Outcome::Done, 0));
+            let bits = 64 - 8 * width;
+            let (zeros, signs) = (value << bits >> bits, (value << bits) as i64 >> bits);
+            let loaded = |signed| {
+                hypervisor()
+                    .hlv(image.as_image(), width, signed, at, 0)
+                    .value
+            };
+            assert_eq!([loaded(false), loaded(true)], [zeros, signs as u64]);
+            assert_eq!(hart.pc(), 0x1004);
+            let root = Read {
+                stage: 2,
+                level: 2,
+                address: BASE,
+                value: BASE >> 2 | 0xdf,
+            };
+            assert_eq!(stored.reads(), [root]);
+        }
+        let changed = bytes.iter().zip(&before).filter(|(new, old)| new != old);
+        assert_eq!(changed.count(), 1 + 2 + 4 + 8);
+    }
+
+    #[test]
+    fn what_is_not_done_writes_nothing() {
+        let store = |hart: &mut Hart, leaf, width, address| {
+            let mut bytes = bytes(leaf);
+            let before = bytes.clone();
+            let mut image = ImageMut {
+                base: BASE,
+                bytes: &mut bytes,
+            };
+            let stored = hart.hsv(&mut image, width, address, !0, 7);
+            assert_eq!(stored.value, 0);
+            assert_eq!(bytes, before);
+            (stored.outcome, stored.reads().len())
+        };
+        let faults = |leaf, width, address| store(&mut hypervisor(), leaf, width, address);
+        assert_eq!(faults(0xdb, 8, 0x4000), (Outcome::Trapped(23), 1));
+        assert_eq!(faults(0xdf, 8, 0x5000), (Outcome::Trapped(7), 1));
+        assert_eq!(faults(0xdf, 8, 0x4001), (Outcome::Trapped(6), 0));
+        assert_eq!(faults(0xdf, 3, 0x4000), (Outcome::Refused(3), 0));
+        for (v, privilege, cause) in [(1, 1, 22), (1, 0, 22), (0, 0, 2)] {
+            let mut hart = Hart::new(v, privilege, 0);
+            let stored = store(&mut hart, 0xdf, 8, BASE + 0x4000);
+            assert_eq!(stored, (Outcome::Trapped(cause), 0));
+            assert_eq!(hart.register(0x343), Some(7));
+        }
+    }
+
+    #[test]
+    fn a_fault_is_delivered() {
+        let bytes = bytes(0xd9);
+        let image = Image {
+            base: BASE,
+            bytes: &bytes,
+        };
+        let mut hart = hypervisor();
+        let loaded = hart.hlv(image, 8, true, 0x4008, 0);
+        assert_eq!((loaded.outcome, loaded.value), (Outcome::Trapped(21), 0));
+        assert_eq!(loaded.reads().len(), 1);
+        let held = [0x341, 0x342, 0x343, 0x34b].map(|number| hart.register(number));
+        assert_eq!(held, [0x1000, 21, 0x4008, 0x1002].map(Some));
+        let loaded = hypervisor().hlvx(image, 4, 0x4008, 0);
+        assert_eq!((loaded.outcome, loaded.value), (Outcome::Done, 0));
+        for width in [1, 8] {
+            let refused = hypervisor().hlvx(image, width, 0x4008, 0);
+            assert_eq!(refused.outcome, Outcome::Refused(3));
         }
     }
 }

@@ -28,8 +28,8 @@ mod ffi;
 mod hart;
 mod translation;
 
-pub use hart::{Accessed, Hart, Outcome};
-pub use translation::{Access, Answer, Fault, Image, Kind, Read, Translation};
+pub use hart::{Accessed, GuestAccessed, Hart, Outcome};
+pub use translation::{Access, Answer, Fault, Image, ImageMut, Kind, Read, Translation};
 
 // The README's Rust lines are run as a test.
 #[cfg(doctest)]

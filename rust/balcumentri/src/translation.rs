@@ -1,14 +1,41 @@
 //! Translations: what goes in, and what comes back.
 
-use crate::ffi::{TranslationWords, PLACES};
+use crate::ffi::{List, TranslationWords, PLACES};
 
-/// A run of bytes from a machine address on. The model reads it and never writes it.
+/// A run of bytes from a machine address on, which the model reads.
 #[derive(Clone, Copy, Debug)]
 pub struct Image<'a> {
     /// The machine address of the first byte.
     pub base: u64,
     /// The bytes.
     pub bytes: &'a [u8],
+}
+
+/// The same, lent for HSV, which writes it.
+///
+/// ```
+/// use balcumentri::ImageMut;
+///
+/// let mut bytes = vec![0; 0x1000];
+/// let image = ImageMut { base: 0x8000_0000, bytes: &mut bytes };
+/// assert_eq!(image.as_image().bytes.len(), 0x1000);
+/// ```
+#[derive(Debug)]
+pub struct ImageMut<'a> {
+    /// The machine address of the first byte.
+    pub base: u64,
+    /// The bytes.
+    pub bytes: &'a mut [u8],
+}
+
+impl ImageMut<'_> {
+    /// The image as it is now, for what only reads it.
+    pub fn as_image(&self) -> Image<'_> {
+        Image {
+            base: self.base,
+            bytes: self.bytes,
+        }
+    }
 }
 
 /// The kinds of access.
@@ -98,8 +125,16 @@ impl Translation {
     /// The entries, in the order in which they were read.
     #[inline]
     pub fn reads(&self) -> &[Read] {
-        let count = self.0.count.min(PLACES as u64) as usize;
-        &self.0.places[..count]
+        self.0.list.reads()
+    }
+}
+
+impl List {
+    /// The places that are used.
+    #[inline]
+    pub(crate) fn reads(&self) -> &[Read] {
+        let count = self.count.min(PLACES as u64) as usize;
+        &self.places[..count]
     }
 }
 

@@ -5,6 +5,7 @@
 //! were delivered and where to, which are not in any answer).
 
 pub mod bits;
+pub mod guest;
 pub mod interrupts;
 pub mod words;
 
@@ -13,19 +14,21 @@ use std::fmt::Write as _;
 
 use second::access::Action;
 use second::hart::{Hart, Mode};
+use second::hypervisor::Operation;
 use second::registers::{find, Row, ROWS};
-use second::script::{Answer, Instruction, Line};
+use second::script::{Answer, Instruction, Line, Session};
 use second::trap::{Ending, Target};
-use second::walk::{Key, Kind, Part, Rule};
+use second::walk::{self, translate, Key, Kind, Part, Rule};
 
 use crate::coverage::bits::Bits;
+use crate::coverage::guest::{has_mprv, Guest};
 use crate::coverage::interrupts::Interrupts;
 use crate::coverage::words::Words;
 use crate::reasons::{KINDS, REASON};
 use crate::word_lines::WORD;
 
 /// The words of the events, in REPLAY.md's order.
-pub const WORDS: [&str; 18] = [
+pub const WORDS: [&str; 21] = [
     "fetch",
     "load",
     "store",
@@ -43,6 +46,9 @@ pub const WORDS: [&str; 18] = [
     "hfence.vvma",
     "hfence.gvma",
     "interrupt",
+    "hlv",
+    "hlvx",
+    "hsv",
     "show",
 ];
 
@@ -107,6 +113,8 @@ pub struct Coverage {
     pub bits: Bits,
     /// The words of instructions.
     pub instruction_words: Words,
+    /// Hypervisor loads and stores.
+    pub guest: Guest,
     /// Refusals by event word and number.
     pub refused_words: BTreeMap<(&'static str, u64), u64>,
     /// Single flipped bits.
@@ -159,6 +167,11 @@ pub fn event_word(line: &Line) -> Option<&'static str> {
             Instruction::HfenceGvma => "hfence.gvma",
         },
         Line::Interrupt => "interrupt",
+        Line::Guest { access, .. } => match access.operation {
+            Operation::Load { .. } => "hlv",
+            Operation::LoadExecutable => "hlvx",
+            Operation::Store { .. } => "hsv",
+        },
         Line::Show => "show",
         Line::Image { .. }
         | Line::File { .. }
@@ -167,6 +180,38 @@ pub fn event_word(line: &Line) -> Option<&'static str> {
         | Line::Reg { .. } => return None,
     };
     Some(word)
+}
+
+/// What a line meets.
+#[derive(Clone, Copy, Debug, PartialEq, Eq)]
+pub struct Before {
+    /// The hart before it.
+    pub hart: Hart,
+    /// The image's base and length.
+    pub image: (u64, u64),
+    /// Whether the image is one that is taken.
+    pub image_taken: bool,
+    /// What the access of a hypervisor load or store in M with MPRV set would come to if MPRV were obeyed.
+    pub by_mprv: Option<walk::Answer>,
+}
+
+impl Before {
+    /// What this line meets in a session.
+    pub fn of(session: &Session, line: &Line) -> Before {
+        let (hart, image) = (&session.hart, &session.image);
+        let by_mprv = match line {
+            Line::Guest { access, .. } if has_mprv(hart) => {
+                Some(translate(hart, image, &access.access()).answer)
+            }
+            _ => None,
+        };
+        Before {
+            hart: *hart,
+            image: (image.base, image.bytes.len() as u64),
+            image_taken: image.refusal().is_none(),
+            by_mprv,
+        }
+    }
 }
 
 /// One more of these.
@@ -182,8 +227,10 @@ fn add<K: Ord + Copy>(counts: &mut BTreeMap<K, u64>, others: &BTreeMap<K, u64>) 
 }
 
 impl Coverage {
-    /// Notes a line of a script, the hart before it and its answer.
-    pub fn note(&mut self, line: &Line, before: &Hart, answer: &Answer) {
+    /// Notes a line of a script, what it met and its answer.
+    pub fn note(&mut self, line: &Line, met: &Before, answer: &Answer) {
+        self.guest.note(line, met, answer);
+        let before = &met.hart;
         self.instruction_words.note(line, before, answer);
         let Some(word) = event_word(line) else {
             return;
@@ -206,6 +253,7 @@ impl Coverage {
             }
             Answer::Register(accessed) => self.note_ending(word, before, &accessed.outcome.ending),
             Answer::Event(outcome) => self.note_ending(word, before, &outcome.ending),
+            Answer::Guest(reached) => self.note_ending(word, before, &reached.outcome.ending),
         }
         if let Some(mode) = before.checked_mode() {
             self.note_mode(line, word, before, mode, answer);
@@ -233,7 +281,7 @@ impl Coverage {
         answer: &Answer,
     ) {
         match (line, answer) {
-            (Line::Ecall | Line::Ebreak | Line::Instruction { .. }, _) => {
+            (Line::Ecall | Line::Ebreak | Line::Instruction { .. } | Line::Guest { .. }, _) => {
                 count(&mut self.instructions, (word, mode));
             }
             (Line::Interrupt, Answer::Event(outcome)) => {
@@ -330,6 +378,7 @@ impl Coverage {
         self.interrupts.add(&other.interrupts);
         self.bits.add(&other.bits);
         self.instruction_words.add(&other.instruction_words);
+        self.guest.add(&other.guest);
         add(&mut self.refused_words, &other.refused_words);
         add(&mut self.flips, &other.flips);
         add(&mut self.refusals, &other.refusals);
@@ -408,7 +457,7 @@ impl Coverage {
                     missing.push(format!("an access to {} in {mode:?}", row.name));
                 }
             }
-            for word in &WORDS[8..16] {
+            for word in WORDS[8..16].iter().chain(&WORDS[17..20]) {
                 if !self.instructions.contains_key(&(*word, mode)) {
                     missing.push(format!("{word} in {mode:?}"));
                 }
@@ -429,6 +478,7 @@ impl Coverage {
         missing.extend(self.interrupts.missing());
         missing.extend(self.bits.missing());
         missing.extend(self.instruction_words.missing());
+        missing.extend(self.guest.missing());
         if self.bad_lines == 0 {
             missing.push("a bad line".to_string());
         }
@@ -489,6 +539,7 @@ impl Coverage {
         self.interrupts.table(text);
         self.bits.table(text);
         self.instruction_words.table(text);
+        self.guest.table(text);
     }
 
     fn table_of_answers(&self, text: &mut String) {
@@ -731,6 +782,12 @@ mod tests {
             "wfi done, with a word",
             "set refused as 5, with a word",
             "an event and its word: write and CSRRW, S 0, N its number, S not its value",
+            "an event and its word: hsv 2 and HSV.H, S not 0, ADDRESS 0, T not 0, VALUE 0",
+            "hlvx in Hs",
+            "hsv refused as 3, with a word",
+            "a hypervisor load or store: Loaded { form: (\"hlv\", 2, true), value: Smallest }",
+            "a hypervisor load or store: Table { width: 4, stage: 2, event: \"fetch\" }",
+            "bits ffffffffffffffff of VALUE as 0, by a store of 1 that is read back",
             "a bad line",
         ] {
             assert!(
@@ -738,7 +795,7 @@ mod tests {
                 "{needed}"
             );
         }
-        assert!(missing.len() > 1500);
+        assert!(missing.len() > 3500);
     }
 
     #[test]

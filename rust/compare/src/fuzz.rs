@@ -87,7 +87,7 @@ const NO_NUMBERS: [&[u8]; 14] = [
 ];
 
 /// Words of the language and near misses.
-const WORDS: [&[u8]; 30] = [
+const WORDS: [&[u8]; 34] = [
     b"image",
     b"file",
     b"put",
@@ -110,6 +110,10 @@ const WORDS: [&[u8]; 30] = [
     b"hfence.vvma",
     b"hfence.gvma",
     b"interrupt",
+    b"hlv",
+    b"hlvx",
+    b"hsv",
+    b"hsvx",
     b"show",
     b"Show",
     b"loads",

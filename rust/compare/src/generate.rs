@@ -7,7 +7,7 @@ use second::hart::Mode;
 use crate::coverage::Coverage;
 use crate::program::Script;
 use crate::scenes::{
-    bad, edges, flips, interrupts, journeys, long, refusals, registers, traps, walks, words,
+    bad, edges, flips, guest, interrupts, journeys, long, refusals, registers, traps, walks, words,
 };
 use crate::scribe::Scribe;
 
@@ -58,6 +58,14 @@ pub fn words_script(seed: u64, folder: &Path) -> (Script, Coverage) {
     explained(scribe)
 }
 
+/// A script with everything that hypervisor loads and stores can come to. It always asks for reasons too.
+pub fn guest_script(seed: u64, folder: &Path) -> (Script, Coverage) {
+    let place = !(2 * Mode::ALL.len() as u64 + 1);
+    let mut scribe = Scribe::new(script_seed(seed, place), folder.to_path_buf());
+    guest::all_in_turn(&mut scribe);
+    explained(scribe)
+}
+
 /// A script with one of the longest lines, or with one that is a byte longer and bad, by its place in the run.
 pub fn long_script(seed: u64, place: u64, folder: &Path) -> (Script, Coverage) {
     let mut scribe = Scribe::new(
@@ -81,6 +89,8 @@ pub fn bad_script(seed: u64, place: u64, folder: &Path) -> (Script, Coverage) {
             "read 300",
             "load 80000000 8",
             "interrupt",
+            "hsv 4 80000000 1234",
+            "hlv 8 1 80000000",
         ]);
         scribe.event(line);
         if scribe.rng.chance(20) {

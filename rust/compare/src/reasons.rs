@@ -13,6 +13,7 @@ use second::registers::{after_write, wrong, Level, Row, Wrong, ROWS};
 use second::trap::{BadRequest, Control, Forbidden, Refusal, Target};
 use second::walk::{BadAccess, Why};
 
+use crate::coverage::guest::hlvx_rules;
 use crate::coverage::interrupts::{passes, ways};
 use crate::coverage::{is_stored, reachable_rules, CAUSES};
 
@@ -107,6 +108,7 @@ fn all() -> Vec<Reason> {
     let refusals = refusals.chain([Refusal::Number(ANY)]);
     let rules = reachable_rules()
         .into_iter()
+        .chain(hlvx_rules())
         .map(|(rule, part, level)| Why {
             rule,
             part,
@@ -161,6 +163,7 @@ fn accesses() -> impl Iterator<Item = BadAccess> {
         BadAccess::Width(ANY),
         BadAccess::FetchWidth(ANY),
         BadAccess::FetchAddress(ANY),
+        BadAccess::HlvxWidth(ANY),
     ]
     .into_iter()
 }
@@ -215,6 +218,7 @@ fn forbidden() -> Vec<Forbidden> {
         Control::Vtsr,
     ];
     rules.extend(bits.map(Forbidden::Bit));
+    rules.push(Forbidden::HuClear);
     rules
 }
 
@@ -258,13 +262,16 @@ fn reaches(mode: Mode, row: &Row) -> bool {
 }
 
 /// The modes that do not reach an instruction.
-const UNREACHED: [(&str, &[Mode]); 6] = [
+const UNREACHED: [(&str, &[Mode]); 9] = [
     ("MRET", &[Mode::U, Mode::Hs, Mode::Vu, Mode::Vs]),
     ("SRET", &[Mode::U, Mode::Vu]),
     ("WFI", &[Mode::U, Mode::Vu]),
     ("SFENCE.VMA", &[Mode::U, Mode::Vu]),
     ("HFENCE.VVMA", &[Mode::U, Mode::Vu, Mode::Vs]),
     ("HFENCE.GVMA", &[Mode::U, Mode::Vu, Mode::Vs]),
+    ("HLV", &[Mode::Vu, Mode::Vs]),
+    ("HLVX", &[Mode::Vu, Mode::Vs]),
+    ("HSV", &[Mode::Vu, Mode::Vs]),
 ];
 
 #[cfg(test)]
@@ -312,6 +319,15 @@ mod tests {
             ),
             ("interrupt a goes to M, bit 10 of mideleg is 0; HS is below M", None),
             ("interrupt 9 goes to HS, bit 9 of hideleg is 0; HS is below HS", None),
+            ("hstatus.HU is 0", Some("hstatus.HU is 0")),
+            ("HLVX has width 2 or 4, not 1", Some("HLVX has width 2 or 4, not *")),
+            ("HLVX is out of reach in VU", Some("HLVX is out of reach in VU")),
+            ("HLVX is out of reach in U", None),
+            ("first stage (satp), level 0: HLVX needs X", None),
+            (
+                "second stage for the access at 40, level 1: HLVX needs X",
+                Some("second stage for the access at *, level 1: HLVX needs X"),
+            ),
         ] {
             assert_eq!(kind(text), expected, "{text}");
         }
@@ -319,7 +335,7 @@ mod tests {
 
     #[test]
     fn each_kind_is_there_once_and_finds_itself() {
-        assert_eq!(KINDS.count(), 999);
+        assert_eq!(KINDS.count(), 999 + 1 + 1 + 6 + 6);
         for kind in 0..KINDS.count() {
             let text = KINDS.text(kind).replace(STAR, "0");
             assert_eq!(KINDS.find(&text), Some(kind), "{text}");

@@ -3,6 +3,7 @@
 pub mod bad;
 pub mod edges;
 pub mod flips;
+pub mod guest;
 pub mod interrupts;
 pub mod journeys;
 pub mod long;

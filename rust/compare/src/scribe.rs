@@ -8,7 +8,7 @@ use second::registers::{after_write, Row, MIP, MPRV, ROWS};
 use second::script::{parse, Answer, Session};
 
 use crate::coverage::bits::REGISTERS;
-use crate::coverage::Coverage;
+use crate::coverage::{Before, Coverage};
 use crate::rng::Rng;
 use crate::words::with_word;
 
@@ -45,7 +45,7 @@ impl Scribe {
         let parsed = parse(&bytes)
             .unwrap_or_else(|bad| panic!("the generator wrote a bad line, {text:?}: {}", bad.0))
             .unwrap_or_else(|| panic!("the generator wrote a blank line, {text:?}"));
-        let before = self.session.hart;
+        let before = Before::of(&self.session, &parsed);
         let answer = self
             .session
             .perform(&parsed)

@@ -10,7 +10,7 @@ pub const WORD: &[u8] = b"# word: ";
 const RELATIONS: [(bool, &str); 2] = [(true, "is "), (false, "does not fit: it is ")];
 
 /// The instructions: `x*` for the number of a register of the hart, `*` for a number, REGISTER for what is accessed.
-pub const KINDS: [&str; 29] = [
+pub const KINDS: [&str; 42] = [
     "MRET",
     "SRET",
     "WFI",
@@ -36,6 +36,19 @@ pub const KINDS: [&str; 29] = [
     "CSRRSI: REGISTER read to x*",
     "CSRRC: REGISTER read to x*",
     "CSRRCI: REGISTER read to x*",
+    "HLV.B: x* loaded from the address in x*",
+    "HLV.BU: x* loaded from the address in x*",
+    "HLV.H: x* loaded from the address in x*",
+    "HLV.HU: x* loaded from the address in x*",
+    "HLVX.HU: x* loaded from the address in x*",
+    "HLV.W: x* loaded from the address in x*",
+    "HLV.WU: x* loaded from the address in x*",
+    "HLVX.WU: x* loaded from the address in x*",
+    "HLV.D: x* loaded from the address in x*",
+    "HSV.B: x* stored at the address in x*",
+    "HSV.H: x* stored at the address in x*",
+    "HSV.W: x* stored at the address in x*",
+    "HSV.D: x* stored at the address in x*",
     "ECALL",
     "EBREAK",
     "a SYSTEM instruction that the model has no event for",
@@ -176,6 +189,12 @@ mod tests {
                 "CSRRS: REGISTER read to x*",
                 Some("mstatus"),
             ),
+            (
+                "6c0545f3 is HLV.D: x11 loaded from the address in x10",
+                true,
+                "HLV.D: x* loaded from the address in x*",
+                None,
+            ),
         ] {
             let said = understand(line).unwrap_or_else(|| panic!("{line}"));
             assert_eq!((said.fits, said.register), (fits, register), "{line}");
@@ -205,6 +224,9 @@ mod tests {
             "18051073 is CSRRW: x10 written to satp (180) the old value to x0",
             "18055073 is CSRRWI: 20 written to satp (180), the old value to x0",
             "12000073 is SFENCE.VMA: all addresses, all VMIDs",
+            "6c0545f3 is HLV.D: x11 loaded from the address in xa",
+            "6c0545f3 is HLV.D: x11 stored at the address in x10",
+            "6c0545f3 is HLV.DU: x11 loaded from the address in x10",
         ] {
             assert_eq!(understand(line), None, "{line}");
         }
@@ -212,7 +234,7 @@ mod tests {
 
     #[test]
     fn each_kind_is_there_once_and_understands_itself() {
-        assert_eq!(all().count(), 25 + 29);
+        assert_eq!(all().count(), 38 + 42);
         for (fits, kind) in all() {
             let text = text((fits, kind)).replace('*', "1");
             let text = text.replace("REGISTER", "register 1");

@@ -2,6 +2,7 @@
 //! them: the bits that an instruction's words have in common, and their values.
 
 use second::access::Action;
+use second::hypervisor::{GuestAccess, Operation};
 use second::script::{parse, Line};
 
 use crate::coverage::event_word;
@@ -26,9 +27,13 @@ const WHOLE: u32 = u32::MAX;
 const FENCE: u32 = 0xfe00_7fff;
 /// The mask of a register access: all but N, S and D.
 const ACCESS: u32 = 0x707f;
+/// The mask of a hypervisor load: all but S and D.
+const LOAD: u32 = 0xfff0_707f;
+/// The mask of a hypervisor store: all but T and S.
+const STORE: u32 = FENCE;
 
 /// A word is the first of these whose bits it has.
-pub const PATTERNS: [Pattern; 16] = [
+pub const PATTERNS: [Pattern; 29] = [
     pattern("ECALL", WHOLE, 0x0000_0073),
     pattern("EBREAK", WHOLE, 0x0010_0073),
     pattern("MRET", WHOLE, 0x3020_0073),
@@ -43,6 +48,19 @@ pub const PATTERNS: [Pattern; 16] = [
     pattern("CSRRWI", ACCESS, 0x5073),
     pattern("CSRRSI", ACCESS, 0x6073),
     pattern("CSRRCI", ACCESS, 0x7073),
+    pattern("HLV.B", LOAD, 0x6000_4073),
+    pattern("HLV.BU", LOAD, 0x6010_4073),
+    pattern("HLV.H", LOAD, 0x6400_4073),
+    pattern("HLV.HU", LOAD, 0x6410_4073),
+    pattern("HLVX.HU", LOAD, 0x6430_4073),
+    pattern("HLV.W", LOAD, 0x6800_4073),
+    pattern("HLV.WU", LOAD, 0x6810_4073),
+    pattern("HLVX.WU", LOAD, 0x6830_4073),
+    pattern("HLV.D", LOAD, 0x6c00_4073),
+    pattern("HSV.B", STORE, 0x6200_4073),
+    pattern("HSV.H", STORE, 0x6600_4073),
+    pattern("HSV.W", STORE, 0x6a00_4073),
+    pattern("HSV.D", STORE, 0x6e00_4073),
     pattern("another SYSTEM instruction", 0x7f, 0x73),
     pattern("no SYSTEM instruction", 0, 0),
 ];
@@ -67,6 +85,16 @@ impl Pattern {
         self.mask == ACCESS
     }
 
+    /// Whether it is a hypervisor load.
+    fn is_load(&self) -> bool {
+        self.mask == LOAD
+    }
+
+    /// Whether it is a hypervisor store.
+    fn is_store(&self) -> bool {
+        self.name.starts_with("HSV")
+    }
+
     /// Any of its words; some of their fields are often 0.
     pub fn word(&self, rng: &mut Rng) -> u32 {
         let zero = rng.pick(&[0, 0x1f << 7, 0x1f << 15, 0x1f << 20, 0x3ff << 15]);
@@ -78,7 +106,7 @@ impl Pattern {
         }
     }
 
-    /// The word with these fields: of a fence N is the register at bits 24:20.
+    /// The word with these fields: of a fence or a hypervisor store N is the register at bits 24:20, of a load 0.
     pub fn with_fields(&self, n: u32, s: u32, d: u32) -> u32 {
         self.bits | (n << 20) | (s << 15) | (d << 7)
     }
@@ -92,6 +120,11 @@ fn n_of(word: u32) -> u32 {
 /// S, bits 19:15.
 fn s_of(word: u32) -> u32 {
     (word >> 15) & 0x1f
+}
+
+/// T, bits 24:20.
+fn t_of(word: u32) -> u32 {
+    (word >> 20) & 0x1f
 }
 
 // Choosing a word.
@@ -127,7 +160,38 @@ fn fitting(rng: &mut Rng, event: &Line) -> Option<u32> {
     match event {
         Line::Register { number, action, .. } => Some(fitting_access(rng, *number, *action)),
         Line::Instruction { .. } => Some(named(&event_word(event)?.to_uppercase()).word(rng)),
+        Line::Guest { access, .. } => Some(fitting_guest(rng, access)),
         _ => None,
+    }
+}
+
+/// The name of a hypervisor load or store that an access is; none where its width is none.
+fn guest_name(access: &GuestAccess) -> Option<&'static str> {
+    let names: [&str; 4] = match access.operation {
+        Operation::Load { signed: true } => ["HLV.B", "HLV.H", "HLV.W", "HLV.D"],
+        Operation::Load { signed: false } => ["HLV.BU", "HLV.HU", "HLV.WU", "HLV.D"],
+        Operation::LoadExecutable => ["", "HLVX.HU", "HLVX.WU", ""],
+        Operation::Store { .. } => ["HSV.B", "HSV.H", "HSV.W", "HSV.D"],
+    };
+    let place = [1, 2, 4, 8].iter().position(|of| *of == access.width)?;
+    (!names[place].is_empty()).then_some(names[place])
+}
+
+/// Where the width is none of the instruction's, the word is of another width and does not fit.
+fn fitting_guest(rng: &mut Rng, access: &GuestAccess) -> u32 {
+    let name = guest_name(access).unwrap_or(match access.operation {
+        Operation::Load { .. } => "HLV.W",
+        Operation::LoadExecutable => "HLVX.WU",
+        Operation::Store { .. } => "HSV.W",
+    });
+    let mut register = |value: u64| match value {
+        0 => rng.below(32) as u32 * rng.below(2) as u32,
+        _ => 1 + rng.below(31) as u32,
+    };
+    let s = register(access.address);
+    match access.operation {
+        Operation::Store { value } => named(name).with_fields(register(value), s, 0),
+        _ => named(name).with_fields(0, s, register(0)),
     }
 }
 
@@ -152,9 +216,21 @@ fn fitting_access(rng: &mut Rng, number: u64, action: Action) -> u32 {
 
 // How an event and its word meet.
 
-/// The form of an event, the instruction that its word is and, of two register accesses, whether S is 0, whether N is the event's
-/// number and whether S is its VALUE.
-pub type Case = (&'static str, &'static str, Option<[bool; 3]>);
+/// The form of an event, the instruction that its word is, and how their numbers meet.
+pub type Case = (&'static str, &'static str, Fields);
+
+/// How the numbers of an event and of an instruction of its kind meet.
+#[derive(Clone, Copy, Debug, PartialEq, Eq, PartialOrd, Ord)]
+pub enum Fields {
+    /// It is an instruction of another kind.
+    None,
+    /// Of two register accesses, whether S is 0, whether N is the event's number and whether S is its VALUE.
+    Access([bool; 3]),
+    /// Of two hypervisor loads, whether S is 0 and whether ADDRESS is.
+    Load([bool; 2]),
+    /// Of two hypervisor stores, whether S, ADDRESS, T and VALUE are 0.
+    Store([bool; 4]),
+}
 
 /// The forms of register accesses: the word, and the flag of a set or clear.
 pub const FORMS: [&str; 6] = ["read", "write", "set 0", "set 1", "clear 0", "clear 1"];
@@ -168,6 +244,27 @@ pub const INSTRUCTIONS: [&str; 6] = [
     "hfence.vvma",
     "hfence.gvma",
 ];
+
+/// The forms of hypervisor loads: the word, the width and SIGNED. The last of each word is any other width.
+pub const LOAD_FORMS: [&str; 14] = [
+    "hlv 1 0", "hlv 1 1", "hlv 2 0", "hlv 2 1", "hlv 4 0", "hlv 4 1", "hlv 8 0", "hlv 8 1", "hlv",
+    "hlvx 1", "hlvx 2", "hlvx 4", "hlvx 8", "hlvx",
+];
+
+/// The forms of hypervisor stores.
+pub const STORE_FORMS: [&str; 5] = ["hsv 1", "hsv 2", "hsv 4", "hsv 8", "hsv"];
+
+/// The form of a hypervisor load or store.
+fn guest_form(access: &GuestAccess) -> &'static str {
+    let place = [1, 2, 4, 8].iter().position(|of| *of == access.width);
+    let place = place.unwrap_or(4);
+    match access.operation {
+        Operation::Load { signed } if place < 4 => LOAD_FORMS[2 * place + usize::from(signed)],
+        Operation::Load { .. } => LOAD_FORMS[8],
+        Operation::LoadExecutable => LOAD_FORMS[9 + place],
+        Operation::Store { .. } => STORE_FORMS[place],
+    }
+}
 
 /// The form of a register access.
 pub fn form(action: Action) -> &'static str {
@@ -183,38 +280,84 @@ pub fn form(action: Action) -> &'static str {
 pub fn case_of(event: &Line) -> Option<Case> {
     let word = event.word()?;
     let pattern = pattern_of(word);
-    let Line::Register { number, action, .. } = event else {
-        return Some((event_word(event)?, pattern.name, None));
+    let case = match event {
+        Line::Register { number, action, .. } => {
+            let fields = Fields::Access(access_fields(word, *number, *action));
+            let fields = if pattern.is_access() {
+                fields
+            } else {
+                Fields::None
+            };
+            (form(*action), pattern.name, fields)
+        }
+        Line::Guest { access, .. } => (
+            guest_form(access),
+            pattern.name,
+            guest_fields(word, pattern, access),
+        ),
+        _ => (event_word(event)?, pattern.name, Fields::None),
     };
+    Some(case)
+}
+
+fn access_fields(word: u32, number: u64, action: Action) -> [bool; 3] {
     let s = u64::from(s_of(word));
     let is_value = match action {
         Action::Read => false,
         Action::Write(value) | Action::Set { value, .. } | Action::Clear { value, .. } => {
-            s == *value
+            s == value
         }
     };
-    let fields = [s == 0, u64::from(n_of(word)) == *number, is_value];
-    let fields = pattern.is_access().then_some(fields);
-    Some((form(*action), pattern.name, fields))
+    [s == 0, u64::from(n_of(word)) == number, is_value]
+}
+
+fn guest_fields(word: u32, pattern: &Pattern, access: &GuestAccess) -> Fields {
+    let (s, address) = (s_of(word) == 0, access.address == 0);
+    match access.operation {
+        Operation::Store { value } if pattern.is_store() => {
+            Fields::Store([s, address, t_of(word) == 0, value == 0])
+        }
+        Operation::Load { .. } | Operation::LoadExecutable if pattern.is_load() => {
+            Fields::Load([s, address])
+        }
+        _ => Fields::None,
+    }
+}
+
+/// Each setting of so many facts.
+fn settings<const N: usize>() -> impl Iterator<Item = [bool; N]> {
+    (0..1u32 << N).map(|setting| std::array::from_fn(|place| (setting >> place) & 1 == 1))
 }
 
 /// All cases that can be.
 pub fn cases() -> Vec<Case> {
     let mut cases = Vec::new();
     for pattern in &PATTERNS {
-        cases.extend(INSTRUCTIONS.map(|event| (event, pattern.name, None)));
+        let name = pattern.name;
+        let alone = |form| (form, name, Fields::None);
+        cases.extend(INSTRUCTIONS.map(alone));
         for form in FORMS {
             if !pattern.is_access() {
-                cases.push((form, pattern.name, None));
+                cases.push(alone(form));
                 continue;
             }
-            for setting in 0..8u32 {
-                let fields = [1, 2, 4].map(|place| setting & place != 0);
-                // A read has no VALUE.
-                if form != "read" || !fields[2] {
-                    cases.push((form, pattern.name, Some(fields)));
-                }
+            // A read has no VALUE.
+            let settings = settings().filter(|[_, _, value]| form != "read" || !value);
+            cases.extend(settings.map(|fields| (form, name, Fields::Access(fields))));
+        }
+        for form in LOAD_FORMS {
+            if !pattern.is_load() {
+                cases.push(alone(form));
+                continue;
             }
+            cases.extend(settings().map(|fields| (form, name, Fields::Load(fields))));
+        }
+        for form in STORE_FORMS {
+            if !pattern.is_store() {
+                cases.push(alone(form));
+                continue;
+            }
+            cases.extend(settings().map(|fields| (form, name, Fields::Store(fields))));
         }
     }
     cases
@@ -262,6 +405,20 @@ mod tests {
             "sfence.vma 0",
             "hfence.vvma 0",
             "hfence.gvma 0",
+            "hlv 1 0 0 0",
+            "hlv 1 1 80 0",
+            "hlv 2 0 80 0",
+            "hlv 2 1 0 0",
+            "hlv 4 0 0 0",
+            "hlv 4 1 80 0",
+            "hlv 8 0 0 0",
+            "hlv 8 1 80 0",
+            "hlvx 2 0 0",
+            "hlvx 4 80 0",
+            "hsv 1 0 0 0",
+            "hsv 2 80 0 0",
+            "hsv 4 0 5 0",
+            "hsv 8 80 5 0",
         ] {
             let text = text.strip_suffix('0').unwrap();
             for _ in 0..100 {
@@ -286,36 +443,64 @@ mod tests {
     #[test]
     fn cases_are_told_apart() {
         for (line, expected) in [
-            ("mret 30200073", ("mret", "MRET", None)),
-            ("wfi 13000073", ("wfi", "SFENCE.VMA", None)),
-            ("wfi 30002073", ("wfi", "CSRRS", None)),
-            ("read 300 73", ("read", "ECALL", None)),
+            ("mret 30200073", ("mret", "MRET", Fields::None)),
+            ("wfi 13000073", ("wfi", "SFENCE.VMA", Fields::None)),
+            ("wfi 30002073", ("wfi", "CSRRS", Fields::None)),
+            ("read 300 73", ("read", "ECALL", Fields::None)),
             (
                 "set 300 0 1 4073",
-                ("set 1", "another SYSTEM instruction", None),
+                ("set 1", "another SYSTEM instruction", Fields::None),
             ),
-            ("set 300 0 0 0", ("set 0", "no SYSTEM instruction", None)),
+            (
+                "set 300 0 0 0",
+                ("set 0", "no SYSTEM instruction", Fields::None),
+            ),
             (
                 "read 300 30002073",
-                ("read", "CSRRS", Some([true, true, false])),
+                ("read", "CSRRS", Fields::Access([true, true, false])),
             ),
             (
                 "write 300 1 3000d073",
-                ("write", "CSRRWI", Some([false, true, true])),
+                ("write", "CSRRWI", Fields::Access([false, true, true])),
             ),
             (
                 "write 1300 0 30001073",
-                ("write", "CSRRW", Some([true, false, true])),
+                ("write", "CSRRW", Fields::Access([true, false, true])),
             ),
             (
                 "clear 301 2 1 3000b073",
-                ("clear 1", "CSRRC", Some([false, false, false])),
+                ("clear 1", "CSRRC", Fields::Access([false, false, false])),
+            ),
+            ("read 680 68054073", ("read", "HLV.W", Fields::None)),
+            (
+                "hlv 4 1 0 68054073",
+                ("hlv 4 1", "HLV.W", Fields::Load([false, true])),
+            ),
+            (
+                "hlv 3 1 8 6c0040f3",
+                ("hlv", "HLV.D", Fields::Load([true, false])),
+            ),
+            ("hlvx 8 8 6e054073", ("hlvx 8", "HSV.D", Fields::None)),
+            (
+                "hsv 2 8 5 66054073",
+                ("hsv 2", "HSV.H", Fields::Store([false, false, true, false])),
+            ),
+            (
+                "hsv 10 0 0 66b04073",
+                ("hsv", "HSV.H", Fields::Store([true, true, false, true])),
+            ),
+            (
+                "hsv 1 0 0 660540f3",
+                ("hsv 1", "another SYSTEM instruction", Fields::None),
             ),
         ] {
             assert_eq!(case_of(&event(line)), Some(expected), "{line}");
         }
         assert_eq!(case_of(&event("ecall")), None);
-        // Six events with sixteen instructions; six with ten that are no access; with six that are one, a read 4 ways, others 8.
-        assert_eq!(cases().len(), 6 * 16 + 6 * 10 + 6 * (4 + 5 * 8));
+        // Six events with 29 instructions; six with those that are no access; with six that are one, a read 4 ways, others 8.
+        let before = 6 * 29 + 6 * 23 + 6 * (4 + 5 * 8);
+        // Fourteen forms of loads: nine that are one, 4 ways. Five of stores: four that are one, 16 ways.
+        let guest = 14 * (20 + 9 * 4) + 5 * (25 + 4 * 16);
+        assert_eq!(cases().len(), before + guest);
     }
 }

@@ -4,24 +4,30 @@
 use std::io;
 
 use compare::comparing::{compare, Difference, Failure, Options, FULL_RUN};
+use compare::coverage::guest::Case;
 use compare::coverage::{event_word, Meeting};
-use compare::generate::words_script;
+use compare::generate::{guest_script, words_script};
 use compare::program::{model, Folder, InProcess, Outcome, Perform, Program, Script, Status};
+use compare::words::Fields;
 use second::access::Action;
-use second::address::GuestPhysical;
+use second::address::{GuestPhysical, Machine};
 use second::bits::{bit, with_bit};
 use second::hart::{BadHart, Hart, Mode};
-use second::image::BadImage;
+use second::hypervisor::{GuestAccess, Operation, Reached};
+use second::image::{BadImage, Image};
 use second::interrupts::{self, Rule as LevelRule};
 use second::lines::LONGEST_LINE;
 use second::reasons::Reason;
 use second::registers::{
-    mpp, Wrong, HGEIE, HGEIP, HIP, HSTATUS_GVA, HVIP, MIDELEG, MIE, MIP, MPV, MSTATUS_GVA, MXR,
-    ROWS, SIE, SIE_REGISTER, SIP, SPVP, SUM, VSIE,
+    mpp, Wrong, HGEIE, HGEIP, HIP, HSTATUS_GVA, HU, HVIP, MIDELEG, MIE, MIP, MPRV, MPV,
+    MSTATUS_GVA, MXR, ROWS, SIE, SIE_REGISTER, SIP, SPP, SPV, SPVP, SUM, VSIE,
 };
 use second::script::{Answer, Bad, Line, Session};
-use second::trap::{BadRequest, Control, Ending, Forbidden, Refusal, Target, Trap, INTERRUPT_BIT};
-use second::walk::{self, effective_mode, Access, BadAccess, Part, Rule, Why};
+use second::trap::{
+    self, deliver, deliver_to, illegal, virtual_instruction, BadRequest, Control, Ending,
+    Forbidden, Refusal, Target, Trap, INTERRUPT_BIT,
+};
+use second::walk::{self, effective_mode, Access, BadAccess, Kind, Part, Rule, Why};
 use second::word::Explanation;
 
 /// Compares the model with an altered copy over at most this many events.
@@ -831,7 +837,9 @@ fn with_other_word(
     other: fn(u32) -> u32,
 ) -> Result<Answer, Bad> {
     let mut line = line.clone();
-    if let Line::Register { word, .. } | Line::Instruction { word, .. } = &mut line {
+    if let Line::Register { word, .. } | Line::Instruction { word, .. } | Line::Guest { word, .. } =
+        &mut line
+    {
         *word = other(*word);
     }
     session.perform(&line)
@@ -848,6 +856,7 @@ fn trapped_with(
     let ending = match &answer {
         Answer::Register(accessed) => accessed.outcome.ending,
         Answer::Event(outcome) => outcome.ending,
+        Answer::Guest(reached) => reached.outcome.ending,
         _ => return Ok(answer),
     };
     if let Ending::Trapped(trap, target) = ending {
@@ -856,16 +865,27 @@ fn trapped_with(
     Ok(answer)
 }
 
-/// The same for events that have a word, whose trap has it as its value.
+/// The same for a trap that has the word as its value.
 fn word_with(
     session: &mut Session,
     line: &Line,
     change: fn(&mut Hart, &Hart, &Trap, Target),
 ) -> Result<Answer, Bad> {
-    match line.word() {
-        Some(_) => trapped_with(session, line, change),
-        None => session.perform(line),
+    let before = session.hart;
+    let answer = session.perform(line)?;
+    let trapped = match (line.word(), &answer) {
+        (Some(_), Answer::Register(accessed)) => accessed.outcome.ending,
+        (Some(_), Answer::Event(outcome)) => outcome.ending,
+        (Some(_), Answer::Guest(reached)) => reached.outcome.ending,
+        _ => return Ok(answer),
+    };
+    match trapped {
+        Ending::Trapped(trap, target) if matches!(trap.cause, 2 | 22) => {
+            change(&mut session.hart, &before, &trap, target);
+        }
+        _ => {}
     }
+    Ok(answer)
 }
 
 /// The tval of a target.
@@ -887,7 +907,7 @@ fn drops_word<const EVENT: usize>(session: &mut Session, line: &Line) -> Result<
 }
 
 /// The events that have a word.
-const EVENTS: [&str; 10] = [
+const EVENTS: [&str; 13] = [
     "read",
     "write",
     "set",
@@ -898,10 +918,13 @@ const EVENTS: [&str; 10] = [
     "sfence.vma",
     "hfence.vvma",
     "hfence.gvma",
+    "hlv",
+    "hlvx",
+    "hsv",
 ];
 
 /// The slips in what is done with a word.
-const WORD_SLIPS: [(&str, Perform); 42] = [
+const WORD_SLIPS: [(&str, Perform); 45] = [
     ("none of a read", drops_word::<0>),
     ("none of a write", drops_word::<1>),
     ("none of a set", drops_word::<2>),
@@ -912,6 +935,9 @@ const WORD_SLIPS: [(&str, Perform); 42] = [
     ("none of SFENCE.VMA", drops_word::<7>),
     ("none of HFENCE.VVMA", drops_word::<8>),
     ("none of HFENCE.GVMA", drops_word::<9>),
+    ("none of HLV", drops_word::<10>),
+    ("none of HLVX", drops_word::<11>),
+    ("none of HSV", drops_word::<12>),
     ("its low half", |session, line| {
         with_other_word(session, line, |word| word & 0xffff)
     }),
@@ -1204,10 +1230,565 @@ fn what_is_said_about_words_is_compared() {
     }
 }
 
+// Copies with a slip in what change request 2026-03 asks for.
+
+/// The model with another hart for a hypervisor load or store that is not refused. What was changed is as it was after it.
+fn guest_with_hart(
+    session: &mut Session,
+    line: &Line,
+    change: fn(&mut Hart, Mode),
+) -> Result<Answer, Bad> {
+    let before = session.hart;
+    let (Line::Guest { .. }, Some(mode)) = (line, before.checked_mode()) else {
+        return session.perform(line);
+    };
+    change(&mut session.hart, mode);
+    let changed = session.hart;
+    let answer = session.perform(line);
+    for row in &ROWS {
+        let held = [before, changed].map(|hart| hart.stored(row.number));
+        if let ([Some(before), Some(changed)], Some(place)) =
+            (held, session.hart.stored_mut(row.number))
+        {
+            *place = mixed(*place, before, before ^ changed);
+        }
+    }
+    answer
+}
+
+/// The model with another access in the place of a hypervisor load or store.
+fn guest_with_access(
+    session: &mut Session,
+    line: &Line,
+    change: fn(&mut GuestAccess, &Hart),
+) -> Result<Answer, Bad> {
+    let mut line = line.clone();
+    if let Line::Guest { access, .. } = &mut line {
+        change(access, &session.hart);
+    }
+    session.perform(&line)
+}
+
+/// The model with another answer of a hypervisor load or store, or another image.
+fn guest_with_answer(
+    session: &mut Session,
+    line: &Line,
+    change: fn(&GuestAccess, &mut Reached, &mut Image),
+) -> Result<Answer, Bad> {
+    let mut answer = session.perform(line)?;
+    if let (Line::Guest { access, .. }, Answer::Guest(reached)) = (line, &mut answer) {
+        change(access, reached, &mut session.image);
+    }
+    Ok(answer)
+}
+
+/// The model with another hart after the fault of a hypervisor load or store.
+fn guest_fault_with(
+    session: &mut Session,
+    line: &Line,
+    change: fn(&mut Hart, &Hart, &Trap, Target),
+) -> Result<Answer, Bad> {
+    let before = session.hart;
+    let answer = session.perform(line)?;
+    if let Answer::Guest(reached) = &answer {
+        let outcome = &reached.outcome;
+        if let (Ending::Trapped(trap, target), Some(Reason::Fault(_))) =
+            (outcome.ending, outcome.reason)
+        {
+            change(&mut session.hart, &before, &trap, target);
+        }
+    }
+    Ok(answer)
+}
+
+/// The model with this cause in the place of that of a fault.
+fn guest_cause_with(
+    session: &mut Session,
+    line: &Line,
+    other: fn(&GuestAccess, u64) -> u64,
+) -> Result<Answer, Bad> {
+    let before = session.hart;
+    let answer = session.perform(line)?;
+    if let (Line::Guest { access, .. }, Answer::Guest(reached), Some(mode)) =
+        (line, &answer, before.checked_mode())
+    {
+        if let Ending::Trapped(trap, _) = reached.outcome.ending {
+            let cause = other(access, trap.cause);
+            session.hart = deliver(&before, mode, &Trap { cause, ..trap }).0;
+        }
+    }
+    Ok(answer)
+}
+
+/// Lets the guest be the hart's own address space.
+fn walks_satp(hart: &mut Hart) {
+    (hart.vsatp, hart.hgatp) = (hart.satp, 0);
+}
+
+/// Whether a hypervisor load or store is HSV.
+fn stores(access: &GuestAccess) -> bool {
+    matches!(access.operation, Operation::Store { .. })
+}
+
+/// The slips in hypervisor loads and stores.
+const GUEST_SLIPS: [(&str, Perform); 52] = [
+    ("V=0", |session, line| {
+        guest_with_hart(session, line, |hart, _| walks_satp(hart))
+    }),
+    ("privilege SPP", |session, line| {
+        guest_with_hart(session, line, |hart, _| {
+            hart.hstatus = with_bit(hart.hstatus, SPVP, bit(hart.mstatus, SPP));
+        })
+    }),
+    ("the hart's own privilege", |session, line| {
+        guest_with_hart(session, line, |hart, mode| {
+            hart.hstatus = with_bit(hart.hstatus, SPVP, mode != Mode::U);
+        })
+    }),
+    ("always VS", |session, line| {
+        guest_with_hart(session, line, |hart, _| hart.hstatus |= 1 << SPVP)
+    }),
+    ("always VU", |session, line| {
+        guest_with_hart(session, line, |hart, _| hart.hstatus &= !(1 << SPVP))
+    }),
+    ("SPVP the other way", |session, line| {
+        guest_with_hart(session, line, |hart, _| hart.hstatus ^= 1 << SPVP)
+    }),
+    ("MPRV obeyed by MPP", |session, line| {
+        guest_with_hart(session, line, |hart, _| {
+            if bit(hart.mstatus, MPRV) && mpp(hart.mstatus) != 3 {
+                hart.hstatus = with_bit(hart.hstatus, SPVP, mpp(hart.mstatus) == 1);
+            }
+        })
+    }),
+    ("MPRV obeyed by MPV", |session, line| {
+        guest_with_hart(session, line, |hart, _| {
+            if bit(hart.mstatus, MPRV) && !bit(hart.mstatus, MPV) {
+                walks_satp(hart);
+            }
+        })
+    }),
+    ("the first stage alone", |session, line| {
+        guest_with_hart(session, line, |hart, _| hart.hgatp = 0)
+    }),
+    ("the second stage alone", |session, line| {
+        guest_with_hart(session, line, |hart, _| hart.vsatp = 0)
+    }),
+    ("mstatus.SUM", |session, line| {
+        guest_with_hart(session, line, |hart, _| {
+            hart.vsstatus = with_bit(hart.vsstatus, SUM, bit(hart.mstatus, SUM));
+        })
+    }),
+    ("SUM not asked", |session, line| {
+        guest_with_hart(session, line, |hart, _| hart.vsstatus |= 1 << SUM)
+    }),
+    ("SUM not asked by HLVX", |session, line| match line {
+        Line::Guest { access, .. } if access.operation == Operation::LoadExecutable => {
+            guest_with_hart(session, line, |hart, _| hart.vsstatus |= 1 << SUM)
+        }
+        _ => session.perform(line),
+    }),
+    ("vsstatus.MXR at the second stage", |session, line| {
+        guest_with_hart(session, line, |hart, _| {
+            hart.mstatus |= hart.vsstatus & (1 << MXR);
+        })
+    }),
+    ("mstatus.MXR nowhere", |session, line| {
+        guest_with_hart(session, line, |hart, _| hart.mstatus &= !(1 << MXR))
+    }),
+    ("vsstatus.MXR nowhere", |session, line| {
+        guest_with_hart(session, line, |hart, _| hart.vsstatus &= !(1 << MXR))
+    }),
+    ("HLVX by R", |session, line| {
+        guest_with_access(session, line, |access, _| {
+            let taken = matches!(access.width, 2 | 4);
+            if access.operation == Operation::LoadExecutable && taken {
+                access.operation = Operation::Load { signed: false };
+            }
+        })
+    }),
+    ("HLVX by MXR", |session, line| {
+        guest_with_access(session, line, |access, hart| {
+            let mxr = bit(hart.vsstatus | hart.mstatus, MXR);
+            if access.operation == Operation::LoadExecutable && mxr && access.width == 4 {
+                access.operation = Operation::Load { signed: false };
+            }
+        })
+    }),
+    ("HLVX by R and X", |session, line| {
+        let mut tried = session.clone();
+        let load = |line: &Line| match line {
+            Line::Guest { access, word } if access.operation == Operation::LoadExecutable => {
+                let operation = Operation::Load { signed: false };
+                let access = GuestAccess {
+                    operation,
+                    ..*access
+                };
+                Some(Line::Guest {
+                    access,
+                    word: *word,
+                })
+            }
+            _ => None,
+        };
+        let answer = load(line).map(|load| tried.perform(&load));
+        match answer {
+            Some(Ok(Answer::Guest(reached))) if reached.machine.is_none() => {
+                *session = tried;
+                Ok(Answer::Guest(reached))
+            }
+            _ => session.perform(line),
+        }
+    }),
+    ("HLVX sign-extended", |session, line| {
+        guest_with_answer(session, line, |access, reached, _| {
+            if access.operation == Operation::LoadExecutable {
+                reached.value = reached.value.map(|value| match access.width {
+                    2 => value as i16 as u64,
+                    _ => value as i32 as u64,
+                });
+            }
+        })
+    }),
+    ("zeros above a signed load", |session, line| {
+        guest_with_access(session, line, |access, _| {
+            if access.operation == (Operation::Load { signed: true }) {
+                access.operation = Operation::Load { signed: false };
+            }
+        })
+    }),
+    ("an unsigned load sign-extended", |session, line| {
+        guest_with_access(session, line, |access, _| {
+            if access.operation == (Operation::Load { signed: false }) {
+                access.operation = Operation::Load { signed: true };
+            }
+        })
+    }),
+    (
+        "a signed load of 4 bytes extended to 32 bits",
+        |session, line| {
+            guest_with_answer(session, line, |_, reached, _| {
+                reached.value = reached.value.map(|value| match value >> 31 {
+                    0x1_ffff_ffff => value & 0xffff_ffff,
+                    _ => value,
+                });
+            })
+        },
+    ),
+    ("loaded in another order of bytes", |session, line| {
+        guest_with_answer(session, line, |access, reached, _| {
+            if access.width == 8 {
+                reached.value = reached.value.map(u64::swap_bytes);
+            }
+        })
+    }),
+    ("a byte too many stored", |session, line| {
+        guest_with_answer(session, line, |access, reached, image| {
+            if let (Operation::Store { value }, Some(machine)) = (access.operation, reached.machine)
+            {
+                let byte = value.checked_shr(8 * access.width as u32).unwrap_or(0);
+                image.store(Machine(machine.0 + access.width), 1, byte);
+            }
+        })
+    }),
+    ("a byte too few stored", |session, line| {
+        let image = session.image.clone();
+        let answer = session.perform(line)?;
+        if let (Line::Guest { access, .. }, Answer::Guest(reached)) = (line, &answer) {
+            if let (true, Some(machine)) = (stores(access), reached.machine) {
+                let last = Machine(machine.0 + access.width - 1);
+                let byte = image.load(last, 1).unwrap();
+                session.image.store(last, 1, byte);
+            }
+        }
+        Ok(answer)
+    }),
+    ("the byte before cleared", |session, line| {
+        guest_with_answer(session, line, |access, reached, image| {
+            if let (true, Some(machine)) = (stores(access), reached.machine) {
+                image.store(Machine(machine.0.wrapping_sub(1)), 1, 0);
+            }
+        })
+    }),
+    ("stored in another order of bytes", |session, line| {
+        guest_with_answer(session, line, |access, reached, image| {
+            if let (Operation::Store { value }, Some(machine)) = (access.operation, reached.machine)
+            {
+                let swapped = value.swap_bytes() >> (64 - 8 * access.width);
+                image.store(machine, access.width, swapped);
+            }
+        })
+    }),
+    ("nothing stored", |session, line| {
+        let image = session.image.clone();
+        let answer = session.perform(line);
+        if let Line::Guest { .. } = line {
+            session.image = image;
+        }
+        answer
+    }),
+    ("stored before D and W are asked", |session, line| {
+        let hart = session.hart;
+        let answer = session.perform(line)?;
+        if let (Line::Guest { access, .. }, Answer::Guest(reached)) = (line, &answer) {
+            let faulted = matches!(reached.outcome.reason, Some(Reason::Fault(_)));
+            if let (Operation::Store { value }, true) = (access.operation, faulted) {
+                let load = Access {
+                    kind: Kind::Load,
+                    ..access.access()
+                };
+                let walked = walk::walk(&hart, &session.image, &load, access.manner(&hart));
+                if let Ok(machine) = walked.end {
+                    session.image.store(machine, access.width, value);
+                }
+            }
+        }
+        Ok(answer)
+    }),
+    ("stored where it is misaligned", |session, line| {
+        let hart = session.hart;
+        let answer = session.perform(line)?;
+        if let (Line::Guest { access, .. }, Answer::Guest(reached)) = (line, &answer) {
+            let misaligned = match reached.outcome.reason {
+                Some(Reason::Fault(why)) => why.rule == Rule::Misaligned,
+                _ => false,
+            };
+            if let (Operation::Store { value }, true) = (access.operation, misaligned) {
+                let byte = Access {
+                    width: 1,
+                    ..access.access()
+                };
+                let walked = walk::walk(&hart, &session.image, &byte, access.manner(&hart));
+                if let Ok(machine) = walked.end {
+                    session.image.store(machine, access.width, value);
+                }
+            }
+        }
+        Ok(answer)
+    }),
+    ("its own store seen by its walk", |session, line| {
+        guest_with_answer(session, line, |_, reached, image| {
+            for read in &mut reached.list.places {
+                read.value = image.read(Machine(read.address)).unwrap_or(read.value);
+            }
+        })
+    }),
+    ("HU asked in HS", |session, line| match line {
+        Line::Guest { word, .. } if session.hart.checked_mode() == Some(Mode::Hs) => {
+            let hart = session.hart;
+            let mut answer = session.perform(line)?;
+            if let (Answer::Guest(reached), false) = (&mut answer, bit(hart.hstatus, HU)) {
+                if !matches!(reached.outcome.ending, Ending::Refused(_)) {
+                    let raised = illegal(Forbidden::HuClear);
+                    reached.outcome = trap::forbidden(&hart, Mode::Hs, raised, *word);
+                    session.hart = reached.outcome.hart;
+                }
+            }
+            Ok(answer)
+        }
+        _ => session.perform(line),
+    }),
+    ("HU not asked in U", |session, line| {
+        guest_with_hart(session, line, |hart, _| hart.hstatus |= 1 << HU)
+    }),
+    ("2 for 22", |session, line| {
+        guest_cause_with(session, line, |_, cause| match cause {
+            22 => 2,
+            other => other,
+        })
+    }),
+    ("22 for 2", |session, line| {
+        guest_cause_with(session, line, |_, cause| match cause {
+            2 => 22,
+            other => other,
+        })
+    }),
+    ("22 where HU is 0 in VU", |session, line| {
+        let before = session.hart;
+        let answer = session.perform(line)?;
+        if let (Line::Guest { word, .. }, Some(Mode::Vu)) = (line, before.checked_mode()) {
+            if matches!(answer.reason(), Some(Reason::Forbidden(_))) && !bit(before.hstatus, HU) {
+                let raised = illegal(Forbidden::HuClear);
+                session.hart = trap::forbidden(&before, Mode::Vu, raised, *word).hart;
+            }
+        }
+        Ok(answer)
+    }),
+    ("misaligned before 22", |session, line| {
+        let before = session.hart;
+        let answer = session.perform(line)?;
+        if let (Line::Guest { access, .. }, Answer::Guest(reached)) = (line, &answer) {
+            let forbidden = matches!(reached.outcome.reason, Some(Reason::Forbidden(_)));
+            let misaligned = forbidden && !access.address.is_multiple_of(access.width);
+            if let (true, Some(mode)) = (misaligned, before.checked_mode()) {
+                let fault = Trap {
+                    cause: if stores(access) { 6 } else { 4 },
+                    value: access.address,
+                    flag: true,
+                    ..Trap::default()
+                };
+                session.hart = deliver(&before, mode, &fault).0;
+            }
+        }
+        Ok(answer)
+    }),
+    ("SPVP written", |session, line| {
+        guest_fault_with(session, line, |hart, before, _, target| {
+            if target == Target::Hs {
+                hart.hstatus = with_bit(hart.hstatus, SPVP, before.privilege == 1);
+            }
+        })
+    }),
+    ("SPV set", |session, line| {
+        guest_fault_with(session, line, |hart, _, _, target| {
+            if target == Target::Hs {
+                hart.hstatus |= 1 << SPV;
+            }
+        })
+    }),
+    ("MPV set", |session, line| {
+        guest_fault_with(session, line, |hart, _, _, target| {
+            if target == Target::M {
+                hart.mstatus |= 1 << MPV;
+            }
+        })
+    }),
+    ("the flag clear", |session, line| {
+        guest_fault_with(session, line, |hart, _, _, target| match target {
+            Target::M => hart.mstatus &= !(1 << MSTATUS_GVA),
+            _ => hart.hstatus &= !(1 << HSTATUS_GVA),
+        })
+    }),
+    ("into VS where hedeleg says so", |session, line| {
+        guest_fault_with(session, line, |hart, before, trap, target| {
+            let delegated = bit(before.hedeleg, trap.cause as u32);
+            if let (Target::Hs, true, Some(mode)) = (target, delegated, before.checked_mode()) {
+                *hart = deliver_to(Target::Vs, before, mode, trap);
+            }
+        })
+    }),
+    ("the word in tval", |session, line| {
+        let Some(word) = line.word() else {
+            return session.perform(line);
+        };
+        let answer = session.perform(line)?;
+        if let Answer::Guest(reached) = &answer {
+            if let Ending::Trapped(_, target) = reached.outcome.ending {
+                *tval(&mut session.hart, target) = u64::from(word);
+            }
+        }
+        Ok(answer)
+    }),
+    ("pc not moved on", |session, line| {
+        let pc = session.hart.pc;
+        let answer = session.perform(line)?;
+        if let Answer::Guest(reached) = &answer {
+            if reached.machine.is_some() {
+                session.hart.pc = pc;
+            }
+        }
+        Ok(answer)
+    }),
+    ("no list where it faults", |session, line| {
+        guest_with_answer(session, line, |_, reached, _| {
+            if reached.machine.is_none() {
+                reached.list = walk::List::default();
+            }
+        })
+    }),
+    ("no list where it is done", |session, line| {
+        guest_with_answer(session, line, |_, reached, _| {
+            if reached.machine.is_some() {
+                reached.list = walk::List::default();
+            }
+        })
+    }),
+    ("a value where it traps", |session, line| {
+        guest_with_answer(session, line, |access, reached, _| {
+            if reached.machine.is_none() {
+                reached.value = reached.value.map(|_| access.address);
+            }
+        })
+    }),
+    ("23 for a guest entry of HSV", |session, line| {
+        guest_cause_with(session, line, |access, cause| match cause {
+            21 if stores(access) => 23,
+            other => other,
+        })
+    }),
+    ("the faults of a fetch for HLVX", |session, line| {
+        guest_cause_with(session, line, |access, cause| match cause {
+            5 | 13 | 21 if access.operation == Operation::LoadExecutable => match cause {
+                5 => 1,
+                13 => 12,
+                _ => 20,
+            },
+            other => other,
+        })
+    }),
+    ("HLVX of 8 bytes taken", |session, line| {
+        guest_with_access(session, line, |access, _| {
+            if (access.operation, access.width) == (Operation::LoadExecutable, 8) {
+                access.operation = Operation::Load { signed: false };
+            }
+        })
+    }),
+    ("22 before refusal 3", |session, line| {
+        let before = session.hart;
+        let mut answer = session.perform(line)?;
+        let (Line::Guest { access, word }, Answer::Guest(reached)) = (line, &mut answer) else {
+            return Ok(answer);
+        };
+        let mode = before.checked_mode().filter(|mode| mode.v());
+        if let (Ending::Refused(3), Some(mode)) = (reached.outcome.ending, mode) {
+            let rule = Forbidden::Instruction(access.operation.name(), mode);
+            let raised = virtual_instruction(rule);
+            reached.outcome = trap::forbidden(&before, mode, raised, *word);
+            session.hart = reached.outcome.hart;
+        }
+        Ok(answer)
+    }),
+];
+
+/// The script with everything about hypervisor loads and stores is part of every run: it alone shows each slip in them.
+#[test]
+fn copies_with_a_slip_in_hypervisor_loads_and_stores() {
+    let folder = Folder::new().unwrap();
+    let (script, _) = guest_script(42, folder.path());
+    let run = |perform| {
+        let program = InProcess {
+            name: "",
+            perform,
+            folder: &folder,
+        };
+        program.run(&script).unwrap()
+    };
+    let expected = run(model);
+    for (slip, perform) in GUEST_SLIPS {
+        assert_ne!(run(perform), expected, "{slip}");
+    }
+}
+
+/// Random scenes find some of them too, and few lines show them.
+#[test]
+fn copies_with_a_slip_in_hypervisor_loads_and_stores_are_shrunk() {
+    for name in [
+        "privilege SPP",
+        "HLVX by MXR",
+        "a byte too many stored",
+        "SPVP written",
+    ] {
+        println!("{name}");
+        let mut slips = GUEST_SLIPS.into_iter();
+        let (_, perform) = slips.find(|(slip, _)| *slip == name).unwrap();
+        caught(perform, 24);
+    }
+}
+
 // Copies whose answers are right, and only a reason is wrong.
 
 /// The wrong reasons.
-const WRONG_REASONS: [fn(&mut Reason); 28] = [
+const WRONG_REASONS: [fn(&mut Reason); 31] = [
     // Faults.
     |reason| fault(reason, |why| why.level = why.level.map(|level| level ^ 1)),
     |reason| {
@@ -1409,6 +1990,28 @@ const WRONG_REASONS: [fn(&mut Reason); 28] = [
             }
         })
     },
+    // Hypervisor loads and stores.
+    |reason| {
+        fault(reason, |why| {
+            if why.rule == Rule::NotExecutableForHlvx {
+                why.rule = Rule::NotReadable;
+            }
+        })
+    },
+    |reason| {
+        refusal(reason, |refusal| {
+            if let Refusal::Access(BadAccess::HlvxWidth(width)) = refusal {
+                *refusal = Refusal::Access(BadAccess::Width(*width));
+            }
+        })
+    },
+    |reason| {
+        forbidden(reason, |rule| {
+            if *rule == Forbidden::HuClear {
+                *rule = Forbidden::Instruction("HLV", Mode::U);
+            }
+        })
+    },
 ];
 
 fn interrupt(reason: &mut Reason, change: fn(&mut interrupts::Why)) {
@@ -1449,6 +2052,7 @@ fn wrong_reason<const N: usize>(session: &mut Session, line: &Line) -> Result<An
         }
         (Answer::Register(accessed), reason) => accessed.outcome.reason = Some(reason),
         (Answer::Event(outcome), reason) => outcome.reason = Some(reason),
+        (Answer::Guest(reached), reason) => reached.outcome.reason = Some(reason),
         (answer, reason) => panic!("{answer:?} has no reason like {reason:?}"),
     }
     Ok(answer)
@@ -1499,6 +2103,9 @@ fn copies_with_a_wrong_reason() {
         wrong_reason::<25>,
         wrong_reason::<26>,
         wrong_reason::<27>,
+        wrong_reason::<28>,
+        wrong_reason::<29>,
+        wrong_reason::<30>,
     ];
     for (place, perform) in copies.into_iter().enumerate() {
         println!("wrong reason {place}");
@@ -1707,13 +2314,18 @@ fn a_run_reaches_everything() {
     let trapped = ("mret", 2, Mode::Vs, Target::Vs);
     words.shown.get_mut(&trapped).unwrap()[0] ^= 1 << 31;
     assert!(words.done.remove("hfence.gvma").is_some());
-    assert!(words.cases.remove(&("wfi", "MRET", None)).is_some());
+    assert!(words.cases.remove(&("wfi", "MRET", Fields::None)).is_some());
+    let guest = &mut coverage.guest;
+    assert!(guest.cases.remove(&Case::OwnTable { stage: 2 }).is_some());
+    guest.stored_bits.get_mut(&4).unwrap()[1] ^= 1 << 40;
     assert_eq!(
         coverage.missing()[3..],
         [
             "bits 80000000 of a word as 1 in VS's tval, by mret in VS with cause 2",
             "hfence.gvma done, with a word",
             "an event and its word: wfi and MRET",
+            "a hypervisor load or store: OwnTable { stage: 2 }",
+            "bits 10000000000 of VALUE as 0, by a store of 4 that is read back",
         ]
     );
     assert!(coverage.events >= 60_000);

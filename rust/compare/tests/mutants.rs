@@ -109,12 +109,12 @@ const MUTANTS: &[Mutant] = &[
     Mutant("walk.rs", "low_ones(offset_bits(level) - 12)", "low_ones((offset_bits(level) - 12).min(9))"),
     Mutant("walk.rs", "let from_address = low_ones(offset_bits(level));", "let from_address = low_ones(12);"),
     Mutant("walk.rs", "is_store && !bit(entry, PTE_D)", "!bit(entry, PTE_D)"),
-    Mutant("walk.rs", "accessed_and_dirty(entry, kind == Kind::Store)?;", "accessed_and_dirty(entry, self.access.kind == Kind::Store)?;"),
+    Mutant("walk.rs", "let is_store = purpose == Purpose::Access && self.access.kind == Kind::Store;", "let is_store = self.access.kind == Kind::Store;"),
     Mutant("walk.rs", "Kind::Store if !bit(entry, PTE_W)", "Kind::Store if !bit(entry, PTE_D)"),
-    Mutant("walk.rs", "Purpose::GuestEntry => (Kind::Load, false),", "Purpose::GuestEntry => (Kind::Load, bit(self.hart.mstatus, MXR)),"),
-    Mutant("walk.rs", "Purpose::GuestEntry => (Kind::Load, false),", "Purpose::GuestEntry => (self.access.kind, false),"),
-    Mutant("walk.rs", "Purpose::Access => (self.access.kind, bit(self.hart.mstatus, MXR)),", "Purpose::Access => (self.access.kind, self.first_stage_mxr()),"),
-    Mutant("walk.rs", "Purpose::Access => (self.access.kind, bit(self.hart.mstatus, MXR)),", "Purpose::Access => (self.access.kind, false),"),
+    Mutant("walk.rs", "right_of_kind(entry, Kind::Load, false)?", "right_of_kind(entry, Kind::Load, bit(self.hart.mstatus, MXR))?"),
+    Mutant("walk.rs", "right_of_kind(entry, Kind::Load, false)?", "right_of_kind(entry, self.access.kind, false)?"),
+    Mutant("walk.rs", "self.right_of_access(entry, bit(self.hart.mstatus, MXR))?", "self.right_of_access(entry, self.first_stage_mxr())?"),
+    Mutant("walk.rs", "self.right_of_access(entry, bit(self.hart.mstatus, MXR))?", "self.right_of_access(entry, false)?"),
     Mutant("walk.rs", "guest || bit(self.hart.mstatus, MXR)", "if self.mode.v() { guest } else { bit(self.hart.mstatus, MXR) }"),
     Mutant("walk.rs", "let guest = self.mode.v() && bit(self.hart.vsstatus, MXR);", "let guest = bit(self.hart.vsstatus, MXR);"),
     Mutant("walk.rs", "bit(self.hart.vsstatus, SUM)", "bit(self.hart.mstatus, SUM)"),
@@ -175,7 +175,7 @@ const MUTANTS: &[Mutant] = &[
     Mutant("walk.rs", "value: self.access.address,", "value: self.access.address & low_ones(56),"),
     Mutant("walk.rs", "field(address, offset_bits(level), 9)", "field(address, offset_bits(level), if level == TOP_LEVEL { 11 } else { 9 })"),
     Mutant("walk.rs", "const TOP_LEVEL: u64 = 2;", "const TOP_LEVEL: u64 = 1;"),
-    Mutant("image.rs", "u64::from_le_bytes(bytes)", "u64::from_be_bytes(bytes)"),
+    Mutant("image.rs", "u64::from_le_bytes(number)", "u64::from_be_bytes(number)"),
     Mutant("script.rs", "Some(byte) if is_blank(*byte) => trimmed(after),", "Some(byte) if is_blank(*byte) => next_word(after).0,"),
     Mutant("lines.rs", "(at_end && !self.line.is_empty())", "false"),
     // Misreadings of docs/MUTATIONS.md, "Misreadings that had changed no example".
@@ -201,14 +201,14 @@ const MUTANTS: &[Mutant] = &[
     Mutant("walk.rs", "self.fault(21, second, 0x3000, why)", "self.fault(if why.rule == Rule::HighBits { self.access.kind.guest_page_fault() } else { 21 }, second, 0x3000, why)"),
     Mutant("trap.rs", "matches!(trap.cause, 8..=11) && trap.value != 0", "matches!(trap.cause, 2 | 8..=11) && trap.value != 0"),
     Mutant("trap.rs", "matches!(trap.cause, 8..=11) && trap.value != 0", "matches!(trap.cause, 22 | 8..=11) && trap.value != 0"),
-    Mutant("walk.rs", "            right_of_kind(entry, kind, mxr)?;\n        }\n        Ok(decoded)\n    }\n}\n", "            if !(kind == Kind::Fetch && bit(entry, PTE_R)) { right_of_kind(entry, kind, mxr)?; }\n        }\n        Ok(decoded)\n    }\n}\n"),
+    Mutant("walk.rs", "self.right_of_access(entry, bit(self.hart.mstatus, MXR))?", "if !(self.access.kind == Kind::Fetch && bit(entry, PTE_R)) { self.right_of_access(entry, bit(self.hart.mstatus, MXR))? }"),
     Mutant("walk.rs", "        let mut table = root_table(atp);", "        let mut table = root_table(atp) & if self.mode.v() && atp_mode(self.hart.hgatp) != BARE { low_ones(41) } else { !0 };"),
     Mutant("walk.rs", "                    level = next;\n                    table = below;\n                }\n                Ok(Entry::Leaf { ppn }) => return Ok(leaf_result(ppn, address, level)),", "                    level = next;\n                    table = below & if self.mode.v() && atp_mode(self.hart.hgatp) != BARE { low_ones(41) } else { !0 };\n                }\n                Ok(Entry::Leaf { ppn }) => return Ok(leaf_result(ppn, address, level)),"),
     Mutant("walk.rs", "return Ok(leaf_result(ppn, address, level)),", "return Ok(leaf_result(ppn, address, level) & if self.mode.v() && atp_mode(self.hart.hgatp) != BARE { low_ones(41) } else { !0 }),"),
     Mutant("walk.rs", "if !sv39x4_well_formed(guest) {", "if purpose == Purpose::Access && !sv39x4_well_formed(guest) {"),
     Mutant("walk.rs", "if !sv39x4_well_formed(guest) {", "if atp_mode(self.hart.vsatp) == BARE && !sv39x4_well_formed(guest) {"),
-    Mutant("walk.rs", "            accessed_and_dirty(entry, kind == Kind::Store)?;\n            if !bit(entry, PTE_U)", "            if purpose == Purpose::Access { accessed_and_dirty(entry, kind == Kind::Store)?; }\n            if !bit(entry, PTE_U)"),
-    Mutant("walk.rs", "            accessed_and_dirty(entry, kind == Kind::Store)?;\n            if !bit(entry, PTE_U)", "            if purpose != Purpose::Access { accessed_and_dirty(entry, kind == Kind::Store)?; } else if kind == Kind::Store && !bit(entry, PTE_D) { return Err(Rule::NotDirty); }\n            if !bit(entry, PTE_U)"),
+    Mutant("walk.rs", "accessed_and_dirty(entry, is_store)?;", "if purpose == Purpose::Access { accessed_and_dirty(entry, is_store)?; }"),
+    Mutant("walk.rs", "accessed_and_dirty(entry, is_store)?;", "if purpose != Purpose::Access { accessed_and_dirty(entry, is_store)?; } else if is_store && !bit(entry, PTE_D) { return Err(Rule::NotDirty); }"),
     Mutant("walk.rs", "return Ok(leaf_result(ppn, address, level)),", "return Ok(leaf_result(ppn, address, level.min(1))),"),
     Mutant("walk.rs", "leaf_result(ppn, guest.0, level)", "leaf_result(ppn, guest.0, level.min(1))"),
     Mutant("walk.rs", "leaf_result(ppn, guest.0, level)", "leaf_result(ppn, guest.0, if level == 1 { 0 } else { level })"),
@@ -367,7 +367,7 @@ const REASONS: &[Mutant] = &[
     Mutant("walk.rs", "Stage::Second(_, Purpose::Access) => Part::HgatpForAccess,", "Stage::Second(_, Purpose::Access) => Part::HgatpForEntry,"),
     Mutant("walk.rs", "Stage::First if self.mode.v() => Part::Vsatp,", "Stage::First if self.hart.v == 1 => Part::Vsatp,"),
     Mutant("walk.rs", "    if bit(entry, PTE_A) {\n        return Err(Rule::PointerWithA);\n    }\n    if bit(entry, PTE_D) {\n        return Err(Rule::PointerWithD);\n    }\n", "    if bit(entry, PTE_D) {\n        return Err(Rule::PointerWithD);\n    }\n    if bit(entry, PTE_A) {\n        return Err(Rule::PointerWithA);\n    }\n"),
-    Mutant("walk.rs", "self.first_stage_user(entry)?;\n            right_of_kind(entry, self.access.kind, self.first_stage_mxr())?;", "right_of_kind(entry, self.access.kind, self.first_stage_mxr())?;\n            self.first_stage_user(entry)?;"),
+    Mutant("walk.rs", "self.first_stage_user(entry)?;\n            self.right_of_access(entry, self.first_stage_mxr())?;", "self.right_of_access(entry, self.first_stage_mxr())?;\n            self.first_stage_user(entry)?;"),
     Mutant("walk.rs", "if field(entry, 54, 10) != 0 {\n        return Err(Rule::ReservedBits);", "if field(entry, 54, 10) != 0 {\n        return Err(Rule::NotValid);"),
     Mutant("walk.rs", "} else if fetch && self.width != 4 {", "} else if fetch && self.width != 4 && self.address.is_multiple_of(4) {"),
     // reasons.rs
@@ -507,7 +507,7 @@ const WORD_LINES: &[Mutant] = &[
     Mutant("word.rs", "*function == field(word, 12, 3)", "*function == field(word, 12, 2)"),
     Mutant("word.rs", "        source: field(word, 15, 5),\n        destination: field(word, 7, 5),", "        source: field(word, 7, 5),\n        destination: field(word, 15, 5),"),
     Mutant("word.rs", "source: field(word, 15, 5),", "source: field(word, 15, 4),"),
-    Mutant("word.rs", "destination: field(word, 7, 5),", "destination: field(word, 8, 5),"),
+    Mutant("word.rs", "destination: field(word, 7, 5),\n        number", "destination: field(word, 8, 5),\n        number"),
     Mutant("word.rs", "number: field(word, 20, 12),", "number: field(word, 20, 11),"),
     Mutant("word.rs", "number: field(word, 20, 12),", "number: field(word, 20, 12) ^ 1,"),
     // word.rs: whether it fits
@@ -573,6 +573,184 @@ const WORD_LINES: &[Mutant] = &[
     Mutant("script.rs", "    if let Some(word) = Explanation::of(line) {\n        writeln!(output, \"# word: {word}\")?;\n    }\n    if let Some(reason) = answer.reason() {\n        writeln!(output, \"# why: {reason}\")?;\n    }\n", "    if let Some(reason) = answer.reason() {\n        writeln!(output, \"# why: {reason}\")?;\n    }\n    if let Some(word) = Explanation::of(line) {\n        writeln!(output, \"# word: {word}\")?;\n    }\n"),
 ];
 
+/// Changes to what change request 2026-03 asks for.
+const GUEST: &[Mutant] = &[
+    // hypervisor.rs: refusals and causes 2 and 22
+    Mutant("hypervisor.rs", "matches!(self.width, 1 | 8)", "matches!(self.width, 1)"),
+    Mutant("hypervisor.rs", "matches!(self.width, 1 | 8)", "matches!(self.width, 8)"),
+    Mutant("hypervisor.rs", "self.access().refusal().or(of_hlvx)", "of_hlvx"),
+    Mutant("hypervisor.rs", "let of_hlvx = hlvx && ", "let of_hlvx = "),
+    Mutant("hypervisor.rs", "    if let Some(bad) = image.refusal() {\n        return Err(Refusal::Image(bad));\n    }\n    if let Some(bad) = access.refusal() {\n        return Err(Refusal::Access(bad));\n    }\n", "    if let Some(bad) = access.refusal() {\n        return Err(Refusal::Access(bad));\n    }\n    if let Some(bad) = image.refusal() {\n        return Err(Refusal::Image(bad));\n    }\n"),
+    Mutant("hypervisor.rs", "    if let Some(bad) = image.refusal() {\n        return Err(Refusal::Image(bad));\n    }\n", "    if let (Some(bad), true) = (image.refusal(), mode == Mode::M) {\n        return Err(Refusal::Image(bad));\n    }\n"),
+    Mutant("hypervisor.rs", "    let mode = hart.check().map_err(Refusal::Hart)?;\n    if let Some(bad) = image.refusal() {\n        return Err(Refusal::Image(bad));\n    }\n", "    if let Some(bad) = image.refusal() {\n        return Err(Refusal::Image(bad));\n    }\n    let mode = hart.check().map_err(Refusal::Hart)?;\n"),
+    Mutant("hypervisor.rs", "    if let Some(bad) = access.refusal() {\n        return Err(Refusal::Access(bad));\n    }\n", "    if let (Some(bad), false) = (access.refusal(), mode.v()) {\n        return Err(Refusal::Access(bad));\n    }\n"),
+    Mutant("hypervisor.rs", "        Mode::Vu | Mode::Vs => {\n", "        Mode::Vs if bit(hart.hstatus, HU) => None,\n        Mode::Vu | Mode::Vs => {\n"),
+    Mutant("hypervisor.rs", "Some(virtual_instruction(rule))", "Some(illegal(rule))"),
+    Mutant("hypervisor.rs", "Some(virtual_instruction(rule))", "Some(if mode == Mode::Vu { illegal(rule) } else { virtual_instruction(rule) })"),
+    Mutant("hypervisor.rs", "Some(illegal(Forbidden::HuClear))", "Some(virtual_instruction(Forbidden::HuClear))"),
+    Mutant("hypervisor.rs", "Mode::U if !bit(hart.hstatus, HU)", "Mode::U if bit(hart.hstatus, HU)"),
+    Mutant("hypervisor.rs", "Mode::U if !bit(hart.hstatus, HU)", "Mode::U if false"),
+    Mutant("hypervisor.rs", "Mode::U if !bit(hart.hstatus, HU)", "Mode::U"),
+    Mutant("hypervisor.rs", "Mode::U if !bit(hart.hstatus, HU)", "Mode::U | Mode::Hs if !bit(hart.hstatus, HU)"),
+    Mutant("hypervisor.rs", "Mode::U if !bit(hart.hstatus, HU)", "Mode::U | Mode::M if !bit(hart.hstatus, HU)"),
+    Mutant("hypervisor.rs", "Mode::U if !bit(hart.hstatus, HU)", "Mode::U if !bit(hart.hstatus, SPVP)"),
+    Mutant("hypervisor.rs", "Mode::U if !bit(hart.hstatus, HU)", "Mode::U if !bit(hart.hstatus, HU) && operation != Operation::LoadExecutable"),
+    Mutant("hypervisor.rs", "let outcome = forbidden(hart, mode, raised, word);", "let outcome = forbidden(hart, mode, raised, 0);"),
+    Mutant("hypervisor.rs", "let outcome = forbidden(hart, mode, raised, word);", "let outcome = forbidden(hart, mode, raised, access.address as u32);"),
+    Mutant("hypervisor.rs", "let outcome = forbidden(hart, mode, raised, word);", "let outcome = forbidden(hart, mode, raised, word & !0x7f | 0x73);"),
+    // hypervisor.rs: the mode and the walk
+    Mutant("hypervisor.rs", "Mode::below_machine(true, bit(hart.hstatus, SPVP))", "Mode::below_machine(false, bit(hart.hstatus, SPVP))"),
+    Mutant("hypervisor.rs", "Mode::below_machine(true, bit(hart.hstatus, SPVP))", "Mode::below_machine(true, bit(hart.mstatus, 8))"),
+    Mutant("hypervisor.rs", "Mode::below_machine(true, bit(hart.hstatus, SPVP))", "Mode::below_machine(true, bit(hart.vsstatus, 8))"),
+    Mutant("hypervisor.rs", "Mode::below_machine(true, bit(hart.hstatus, SPVP))", "Mode::below_machine(true, !bit(hart.hstatus, SPVP))"),
+    Mutant("hypervisor.rs", "Mode::below_machine(true, bit(hart.hstatus, SPVP))", "Mode::below_machine(true, true)"),
+    Mutant("hypervisor.rs", "Mode::below_machine(true, bit(hart.hstatus, SPVP))", "Mode::below_machine(true, false)"),
+    Mutant("hypervisor.rs", "Mode::below_machine(true, bit(hart.hstatus, SPVP))", "Mode::below_machine(true, hart.privilege != 0)"),
+    Mutant("hypervisor.rs", "Mode::below_machine(true, bit(hart.hstatus, SPVP))", "Mode::below_machine(true, hart.privilege != 0 && bit(hart.hstatus, SPVP))"),
+    Mutant("hypervisor.rs", "Mode::below_machine(true, bit(hart.hstatus, SPVP))", "Mode::below_machine(bit(hart.hstatus, 7), bit(hart.hstatus, SPVP))"),
+    Mutant("hypervisor.rs", "Mode::below_machine(true, bit(hart.hstatus, SPVP))", "if bit(hart.mstatus, 17) { Mode::from_mpp((hart.mstatus >> 11) & 3, bit(hart.mstatus, 39)) } else { Mode::below_machine(true, bit(hart.hstatus, SPVP)) }"),
+    Mutant("hypervisor.rs", "Mode::below_machine(true, bit(hart.hstatus, SPVP))", "if bit(hart.mstatus, 17) && bit(hart.mstatus, 39) { Mode::from_mpp((hart.mstatus >> 11) & 3, true) } else { Mode::below_machine(true, bit(hart.hstatus, SPVP)) }"),
+    Mutant("hypervisor.rs", "needs_x: self.operation == Operation::LoadExecutable,", "needs_x: false,"),
+    Mutant("hypervisor.rs", "needs_x: self.operation == Operation::LoadExecutable,", "needs_x: self.operation == Operation::LoadExecutable && self.width == 2,"),
+    Mutant("hypervisor.rs", "needs_x: self.operation == Operation::LoadExecutable,", "needs_x: self.operation == Operation::LoadExecutable && bit(hart.hstatus, SPVP),"),
+    Mutant("hypervisor.rs", "needs_x: self.operation == Operation::LoadExecutable,", "needs_x: self.operation == Operation::LoadExecutable && !bit(hart.mstatus, 19),"),
+    Mutant("hypervisor.rs", "needs_x: self.operation == Operation::LoadExecutable,", "needs_x: self.operation == Operation::LoadExecutable && !bit(hart.vsstatus, 19),"),
+    Mutant("hypervisor.rs", "Operation::Load { .. } | Operation::LoadExecutable => Kind::Load,", "Operation::Load { .. } => Kind::Load,\n            Operation::LoadExecutable => Kind::Fetch,"),
+    Mutant("hypervisor.rs", "Operation::Store { .. } => Kind::Store,", "Operation::Store { .. } => Kind::Load,"),
+    // hypervisor.rs: the fault
+    Mutant("hypervisor.rs", "..trapped(hart, mode, fault.trap)", "..trapped(hart, Mode::below_machine(true, bit(hart.hstatus, SPVP)), fault.trap)"),
+    Mutant("hypervisor.rs", "..trapped(hart, mode, fault.trap)", "..trapped(hart, mode, crate::trap::Trap { flag: mode.v(), ..fault.trap })"),
+    Mutant("hypervisor.rs", "..trapped(hart, mode, fault.trap)", "..trapped(hart, mode, crate::trap::Trap { second: 0, ..fault.trap })"),
+    Mutant("hypervisor.rs", "..trapped(hart, mode, fault.trap)", "..trapped(hart, mode, crate::trap::Trap { word: 0, ..fault.trap })"),
+    Mutant("hypervisor.rs", "..trapped(hart, mode, fault.trap)", "..trapped(hart, mode, crate::trap::Trap { flag: fault.trap.second != 0, ..fault.trap })"),
+    Mutant("hypervisor.rs", "..trapped(hart, mode, fault.trap)", "..trapped(&Hart { hstatus: hart.hstatus & !(1 << SPVP), ..*hart }, mode, fault.trap)"),
+    Mutant("hypervisor.rs", "..trapped(hart, mode, fault.trap)", "..trapped(&Hart { hstatus: hart.hstatus | (1 << SPVP), ..*hart }, mode, fault.trap)"),
+    Mutant("hypervisor.rs", "..trapped(hart, mode, fault.trap)", "..trapped(&hart.moved_on(), mode, fault.trap)"),
+    Mutant("hypervisor.rs", "..trapped(hart, mode, fault.trap)", "..Outcome { hart: *hart, ..trapped(hart, mode, fault.trap) }"),
+    Mutant("hypervisor.rs", "Err(fault) => without_bytes(access, walked.list, faulted(hart, mode, &fault)),", "Err(fault) => without_bytes(access, List::default(), faulted(hart, mode, &fault)),"),
+    Mutant("hypervisor.rs", "Err(fault) => without_bytes(access, walked.list, faulted(hart, mode, &fault)),", "Err(fault) => { if let Operation::Store { value } = access.operation { let _ = image.store(Machine(fault.why.address), access.width, value); } without_bytes(access, walked.list, faulted(hart, mode, &fault)) }"),
+    Mutant("hypervisor.rs", "Operation::Load { .. } | Operation::LoadExecutable => Some(0),", "Operation::Load { .. } | Operation::LoadExecutable => Some(u64::MAX),"),
+    // hypervisor.rs: what is done
+    Mutant("hypervisor.rs", "outcome: only_moves_on(hart),", "outcome: crate::trap::done(*hart),"),
+    Mutant("hypervisor.rs", "outcome: only_moves_on(hart),", "outcome: crate::trap::done(Hart { pc: hart.pc.saturating_add(4), ..*hart }),"),
+    Mutant("hypervisor.rs", "outcome: only_moves_on(hart),", "outcome: crate::trap::done(Hart { hstatus: hart.hstatus & !(1 << SPVP), ..hart.moved_on() }),"),
+    Mutant("hypervisor.rs", "            machine: Some(machine),\n            list: walked.list,", "            machine: Some(machine),\n            list: List::default(),"),
+    Mutant("hypervisor.rs", "1 if signed => loaded as i8 as u64,", "1 if signed => loaded,"),
+    Mutant("hypervisor.rs", "2 if signed => loaded as i16 as u64,", "2 if signed => loaded,"),
+    Mutant("hypervisor.rs", "4 if signed => loaded as i32 as u64,", "4 if signed => loaded,"),
+    Mutant("hypervisor.rs", "1 if signed => loaded as i8 as u64,", "1 => loaded as i8 as u64,"),
+    Mutant("hypervisor.rs", "2 if signed => loaded as i16 as u64,", "2 => loaded as i16 as u64,"),
+    Mutant("hypervisor.rs", "4 if signed => loaded as i32 as u64,", "4 => loaded as i32 as u64,"),
+    Mutant("hypervisor.rs", "1 if signed => loaded as i8 as u64,", "1 if signed => loaded as i8 as u16 as u64,"),
+    Mutant("hypervisor.rs", "2 if signed => loaded as i16 as u64,", "2 if signed => loaded as i16 as u32 as u64,"),
+    Mutant("hypervisor.rs", "        _ => loaded,", "        8 if signed => loaded as i32 as u64,\n        _ => loaded,"),
+    Mutant("hypervisor.rs", "Operation::LoadExecutable => (false, image.load(machine, width)),", "Operation::LoadExecutable => (true, image.load(machine, width)),"),
+    Mutant("hypervisor.rs", "Operation::Load { signed } => (signed, image.load(machine, width)),", "Operation::Load { signed } => (signed, image.load(machine, 8).or(image.load(machine, width))),"),
+    Mutant("hypervisor.rs", "Operation::Load { signed } => (signed, image.load(machine, width)),", "Operation::Load { signed } => (signed, image.load(Machine(machine.0 & !7), width)),"),
+    Mutant("hypervisor.rs", "            image.store(machine, width, value);\n", "            image.store(machine, 8, value);\n"),
+    Mutant("hypervisor.rs", "            image.store(machine, width, value);\n", "            image.store(machine, 8, value).or_else(|| image.store(machine, width, value));\n"),
+    Mutant("hypervisor.rs", "            image.store(machine, width, value);\n", "            image.store(machine, width.min(4), value);\n"),
+    Mutant("hypervisor.rs", "            image.store(machine, width, value);\n", "            image.store(machine, width, value & 0xffff_ffff);\n"),
+    Mutant("hypervisor.rs", "            image.store(machine, width, value);\n", "            image.store(machine, width, value.swap_bytes() >> (64 - 8 * width));\n"),
+    Mutant("hypervisor.rs", "            image.store(machine, width, value);\n", "            image.store(Machine(access.address), width, value);\n"),
+    Mutant("hypervisor.rs", "            image.store(machine, width, value);\n", "            image.store(Machine(machine.0 & !7), width, value);\n"),
+    Mutant("hypervisor.rs", "            image.store(machine, width, value);\n", "            image.store(machine, (width + 1).min(8), value).or_else(|| image.store(machine, width, value));\n"),
+    Mutant("hypervisor.rs", "            image.store(machine, width, value);\n", ""),
+    Mutant("hypervisor.rs", "            value: perform(image, access, machine),\n            machine: Some(machine),\n            list: walked.list,", "            value: perform(image, access, machine),\n            machine: Some(machine),\n            list: walk(hart, image, &access.access(), access.manner(hart)).list,"),
+    // walk.rs: HLVX
+    Mutant("walk.rs", "if !bit(entry, PTE_X) {\n            return Err(Rule::NotExecutableForHlvx);", "if !bit(entry, PTE_X) || !bit(entry, PTE_R) {\n            return Err(Rule::NotExecutableForHlvx);"),
+    Mutant("walk.rs", "if !bit(entry, PTE_X) {\n            return Err(Rule::NotExecutableForHlvx);", "if !bit(entry, PTE_X) && !mxr {\n            return Err(Rule::NotExecutableForHlvx);"),
+    Mutant("walk.rs", "if !bit(entry, PTE_X) {\n            return Err(Rule::NotExecutableForHlvx);", "if !bit(entry, PTE_X) && !bit(entry, PTE_R) {\n            return Err(Rule::NotExecutableForHlvx);"),
+    Mutant("walk.rs", "            self.right_of_access(entry, self.first_stage_mxr())?;", "            right_of_kind(entry, self.access.kind, self.first_stage_mxr())?;"),
+    Mutant("walk.rs", "self.right_of_access(entry, bit(self.hart.mstatus, MXR))?", "right_of_kind(entry, self.access.kind, bit(self.hart.mstatus, MXR))?"),
+    Mutant("walk.rs", "right_of_kind(entry, Kind::Load, false)?", "if self.needs_x && bit(entry, PTE_X) { } else { right_of_kind(entry, Kind::Load, false)? }"),
+    Mutant("walk.rs", "right_of_kind(entry, Kind::Load, false)?", "self.right_of_access(entry, false)?"),
+    Mutant("walk.rs", "            if self.access.kind == Kind::Fetch {\n                return Err(Rule::SupervisorFetch);", "            if self.access.kind == Kind::Fetch || self.needs_x {\n                return Err(Rule::SupervisorFetch);"),
+    Mutant("walk.rs", "            if !self.sum() {\n", "            if !self.sum() && !self.needs_x {\n"),
+    Mutant("walk.rs", "            bit(self.hart.vsstatus, SUM)\n", "            bit(if self.hart.v == 0 { self.hart.mstatus } else { self.hart.vsstatus }, SUM)\n"),
+    // image.rs
+    Mutant("image.rs", "let stored = number.get(..places.len())?;", "let stored = number.get(8 - places.len()..)?;"),
+    Mutant("image.rs", "let number = value.to_le_bytes();", "let number = value.to_be_bytes();"),
+    Mutant("image.rs", "(end <= self.bytes.len()).then_some(start..end)", "(end < self.bytes.len()).then_some(start..end)"),
+    // script.rs
+    Mutant("script.rs", "let reached = reach(&self.hart, &mut self.image, access, *word);", "let reached = reach(&self.hart, &mut self.image.clone(), access, *word);"),
+    Mutant("script.rs", "                self.hart = reached.outcome.hart;\n                Ok(Answer::Guest", "                Ok(Answer::Guest"),
+    Mutant("script.rs", "(Ending::Trapped(..) | Ending::Done, None) => writeln!(output, \"ok\")?,", "(Ending::Trapped(..) | Ending::Done, None) => writeln!(output, \"value 0\")?,"),
+    Mutant("script.rs", "    write_list(output, &reached.list)", "    match reached.outcome.ending { Ending::Trapped(..) => Ok(()), _ => write_list(output, &reached.list) }"),
+    Mutant("script.rs", "let signed = flag(signed, \"SIGNED\")?;", "let signed = signed != 0;"),
+    Mutant("script.rs", "let [width, signed, address, word] = numbers(rest)?;", "let [width, address, signed, word] = numbers(rest)?;"),
+    Mutant("script.rs", "let [width, address, value, word] = numbers(rest)?;", "let [width, value, address, word] = numbers(rest)?;"),
+    Mutant("script.rs", "let [width, address, word] = numbers(rest)?;", "let [width, address, word] = numbers(rest).or_else(|_| numbers(rest).map(|[width, _, address, word]| [width, address, word]))?;"),
+    Mutant("script.rs", "let [width, address, value, word] = numbers(rest)?;", "let [width, address, value, word] = numbers(rest).or_else(|_| numbers(rest).map(|[width, address, value]| [width, address, value, 0]))?;"),
+];
+
+/// Changes to what is said about hypervisor loads and stores, which no answer shows.
+const GUEST_LINES: &[Mutant] = &[
+    // The reasons.
+    Mutant("hypervisor.rs", "BadAccess::HlvxWidth(self.width)", "BadAccess::Width(self.width)"),
+    Mutant("hypervisor.rs", "Operation::LoadExecutable => \"HLVX\",", "Operation::LoadExecutable => \"HLV\","),
+    Mutant("hypervisor.rs", "Operation::Store { .. } => \"HSV\",", "Operation::Store { .. } => \"HLV\","),
+    Mutant("hypervisor.rs", "illegal(Forbidden::HuClear)", "illegal(Forbidden::Instruction(operation.name(), mode))"),
+    Mutant("hypervisor.rs", "reason: Some(Reason::Fault(fault.why)),", "reason: None,"),
+    Mutant("walk.rs", "return Err(Rule::NotExecutableForHlvx);", "return Err(Rule::NotExecutable);"),
+    Mutant("walk.rs", "return Err(Rule::NotExecutableForHlvx);", "return Err(Rule::NotReadable);"),
+    Mutant("reasons.rs", "\"HLVX has width 2 or 4, not {width:x}\"", "\"HLVX has width 2 or 4, not {width}0\""),
+    Mutant("reasons.rs", "\"hstatus.HU is 0\"", "\"mstatus.HU is 0\""),
+    Mutant("reasons.rs", "\"HLVX needs X\"", "\"a fetch needs X\""),
+    // What a word is.
+    Mutant("word.rs", "(0x30, 0, \"HLV.B\", Loading::Signed, 1)", "(0x30, 0, \"HLV.B\", Loading::Unsigned, 1)"),
+    Mutant("word.rs", "(0x30, 1, \"HLV.BU\", Loading::Unsigned, 1)", "(0x30, 3, \"HLV.BU\", Loading::Unsigned, 1)"),
+    Mutant("word.rs", "(0x30, 1, \"HLV.BU\", Loading::Unsigned, 1)", "(0x30, 1, \"HLV.BU\", Loading::Signed, 1)"),
+    Mutant("word.rs", "(0x32, 0, \"HLV.H\", Loading::Signed, 2)", "(0x32, 0, \"HLV.H\", Loading::Signed, 4)"),
+    Mutant("word.rs", "(0x32, 1, \"HLV.HU\", Loading::Unsigned, 2)", "(0x33, 1, \"HLV.HU\", Loading::Unsigned, 2)"),
+    Mutant("word.rs", "(0x32, 3, \"HLVX.HU\", Loading::Executable, 2)", "(0x32, 2, \"HLVX.HU\", Loading::Executable, 2)"),
+    Mutant("word.rs", "(0x32, 3, \"HLVX.HU\", Loading::Executable, 2)", "(0x32, 3, \"HLVX.HU\", Loading::Unsigned, 2)"),
+    Mutant("word.rs", "(0x34, 0, \"HLV.W\", Loading::Signed, 4)", "(0x34, 0, \"HLV.WU\", Loading::Signed, 4)"),
+    Mutant("word.rs", "(0x34, 1, \"HLV.WU\", Loading::Unsigned, 4)", "(0x34, 1, \"HLV.WU\", Loading::Unsigned, 8)"),
+    Mutant("word.rs", "(0x34, 3, \"HLVX.WU\", Loading::Executable, 4)", "(0x36, 3, \"HLVX.WU\", Loading::Executable, 4)"),
+    Mutant("word.rs", "(0x36, 0, \"HLV.D\", Loading::Signed, 8)", "(0x36, 1, \"HLV.D\", Loading::Signed, 8)"),
+    Mutant("word.rs", "(0x31, \"HSV.B\", 1)", "(0x31, \"HSV.B\", 2)"),
+    Mutant("word.rs", "(0x33, \"HSV.H\", 2)", "(0x32, \"HSV.H\", 2)"),
+    Mutant("word.rs", "(0x35, \"HSV.W\", 4)", "(0x35, \"HSV.D\", 4)"),
+    Mutant("word.rs", "(0x37, \"HSV.D\", 8)", "(0x36, \"HSV.D\", 8)"),
+    Mutant("word.rs", "if field(word, 12, 3) != GUEST {", "if field(word, 14, 1) != 1 {"),
+    Mutant("word.rs", "if field(word, 12, 3) != GUEST || field(word, 7, 5) != 0 {", "if field(word, 12, 3) != GUEST {"),
+    Mutant("word.rs", "if field(word, 12, 3) != GUEST || field(word, 7, 5) != 0 {", "if field(word, 12, 3) != GUEST || field(word, 7, 4) != 0 {"),
+    Mutant("word.rs", "let functions = (field(word, 25, 7), field(word, 20, 5));", "let functions = (field(word, 25, 7), field(word, 20, 4));"),
+    Mutant("word.rs", "let functions = (field(word, 25, 7), field(word, 20, 5));", "let functions = (field(word, 25, 6), field(word, 20, 5));"),
+    Mutant("word.rs", "store.0 == field(word, 25, 7)", "store.0 == field(word, 25, 6)"),
+    Mutant("word.rs", "        width,\n        address: field(word, 15, 5),\n        destination: field(word, 7, 5),", "        width,\n        address: field(word, 7, 5),\n        destination: field(word, 15, 5),"),
+    Mutant("word.rs", "        width,\n        address: field(word, 15, 5),\n        source: field(word, 20, 5),", "        width,\n        address: field(word, 20, 5),\n        source: field(word, 15, 5),"),
+    // Whether it fits.
+    Mutant("word.rs", "register != 0 || value == 0", "true"),
+    Mutant("word.rs", "register != 0 || value == 0", "value == 0"),
+    Mutant("word.rs", "register != 0 || value == 0", "(register == 0) == (value == 0)"),
+    Mutant("word.rs", "GuestOperation::Load { signed: true } => self.loading == Loading::Signed,", "GuestOperation::Load { signed: true } => self.loading != Loading::Executable,"),
+    Mutant("word.rs", "self.loading == Loading::Unsigned || self.width == 8", "self.loading == Loading::Unsigned"),
+    Mutant("word.rs", "self.loading == Loading::Unsigned || self.width == 8", "self.loading != Loading::Executable"),
+    Mutant("word.rs", "self.loading == Loading::Unsigned || self.width == 8", "self.loading != Loading::Signed || self.width == 8"),
+    Mutant("word.rs", "GuestOperation::LoadExecutable => self.loading == Loading::Executable,", "GuestOperation::LoadExecutable => self.loading != Loading::Signed,"),
+    Mutant("word.rs", "GuestOperation::Store { .. } => false,", "GuestOperation::Store { .. } => true,"),
+    Mutant("word.rs", "GuestOperation::Store { value } => can_hold(self.source, value),\n            _ => false,", "GuestOperation::Store { value } => can_hold(self.source, value),\n            _ => true,"),
+    Mutant("word.rs", "GuestOperation::Store { value } => can_hold(self.source, value),", "GuestOperation::Store { .. } => true,"),
+    Mutant("word.rs", "GuestOperation::Store { value } => can_hold(self.source, value),", "GuestOperation::Store { value } => can_hold(self.address, value),"),
+    Mutant("word.rs", "loads_so && self.width == access.width && can_hold(self.address, access.address)", "loads_so && can_hold(self.address, access.address)"),
+    Mutant("word.rs", "loads_so && self.width == access.width && can_hold(self.address, access.address)", "loads_so && self.width == access.width"),
+    Mutant("word.rs", "loads_so && self.width == access.width && can_hold(self.address, access.address)", "loads_so && self.width == access.width && can_hold(self.destination, access.address)"),
+    Mutant("word.rs", "stores_it && self.width == access.width && can_hold(self.address, access.address)", "stores_it && can_hold(self.address, access.address)"),
+    Mutant("word.rs", "stores_it && self.width == access.width && can_hold(self.address, access.address)", "stores_it && self.width == access.width"),
+    Mutant("word.rs", "stores_it && self.width == access.width && can_hold(self.address, access.address)", "stores_it && self.width <= access.width && can_hold(self.address, access.address)"),
+    // In words.
+    Mutant("word.rs", "\"{}: x{} loaded from the address in x{}\"", "\"{}: x{:x} loaded from the address in x{}\""),
+    Mutant("word.rs", "\"{}: x{} loaded from the address in x{}\"", "\"{}: x{} loaded from the address in x{:x}\""),
+    Mutant("word.rs", "self.name, self.destination, self.address", "self.name, self.address, self.destination"),
+    Mutant("word.rs", "\"{}: x{} stored at the address in x{}\"", "\"{}: x{:x} stored at the address in x{}\""),
+    Mutant("word.rs", "self.name, self.source, self.address", "self.name, self.address, self.source"),
+    // script.rs
+    Mutant("script.rs", "            | Line::Guest { word, .. } => Some(*word),", "            => Some(*word),"),
+    Mutant("script.rs", "Answer::Guest(reached) => reached.outcome.reason,", "Answer::Guest(_) => None,"),
+];
+
 fn source() -> PathBuf {
     Path::new(env!("CARGO_MANIFEST_DIR")).join("../second/src")
 }
@@ -586,6 +764,8 @@ fn every_mutant_still_fits_the_source() {
         INTERRUPT_REASONS,
         WORDS,
         WORD_LINES,
+        GUEST,
+        GUEST_LINES,
     ];
     for mutant in all.into_iter().flatten() {
         mutant.changed_text(&source());
@@ -695,4 +875,16 @@ fn every_mutant_of_words_is_caught() {
 #[ignore = "takes minutes"]
 fn every_mutant_of_what_is_said_about_words_is_caught() {
     check(WORD_LINES, |_| false);
+}
+
+#[test]
+#[ignore = "takes minutes"]
+fn every_mutant_of_hypervisor_loads_and_stores_is_caught() {
+    check(GUEST, |Mutant(file, ..)| *file != "script.rs");
+}
+
+#[test]
+#[ignore = "takes minutes"]
+fn every_mutant_of_what_is_said_about_hypervisor_loads_and_stores_is_caught() {
+    check(GUEST_LINES, |_| false);
 }

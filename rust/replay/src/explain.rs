@@ -1,21 +1,22 @@
 //! Answers in words: lines that begin with `# `.
 
 use crate::events;
+use crate::guest;
 use crate::happened::{refusal, Came, Explanation, Happened};
 use crate::interrupts;
 use crate::names;
 use crate::paint::Paint;
-use crate::script::Event;
+use crate::script::{Event, GuestAccess};
 use crate::tree;
-use crate::walk::{self, Part, Stage, View, Walk};
+use crate::walk::{self, Part, Right, Stage, View, Walk};
 use crate::word;
-use balcumentri::{Access, Answer, Fault, Kind, Translation};
+use balcumentri::{Access, Answer, Fault, GuestAccessed, Kind, Outcome, Translation};
 use std::io::{self, Write};
 
 /// The instruction word of a fault at a guest entry.
 const GUEST_ENTRY: u64 = 0x3000;
 
-/// How a translation is explained.
+/// How a walk is explained.
 #[derive(Clone, Copy, PartialEq, Eq)]
 pub enum Style {
     /// A line for each entry.
@@ -45,6 +46,9 @@ impl Explainer {
             (Event::Ebreak, Came::Stepped(outcome)) => events::event(happened, "EBREAK", *outcome),
             (Event::Perform(instruction, _), Came::Stepped(outcome)) => {
                 events::event(happened, instruction.name(), *outcome)
+            }
+            (Event::Guest(access, _), Came::Loaded(accessed) | Came::Stored(accessed)) => {
+                self.guest_access(happened, access, accessed)
             }
             (Event::Interrupt, Came::Stepped(outcome)) => interrupts::event(happened, *outcome),
             (_, Came::Stepped(outcome)) => events::event(happened, "trap request", *outcome),
@@ -81,20 +85,57 @@ impl Explainer {
                 why: happened.refused(number),
             };
         }
-        let Some(view) = View::new(happened.before, access.kind) else {
+        let Some(view) = View::of_access(happened.before, access) else {
             return Explanation {
                 lines: vec![ending],
                 why: None,
             };
         };
-        let walk = walk::follow(&view, access, translation);
-        let heading = heading(access, &view);
+        let faulted = matches!(answer, Answer::Fault(_));
+        let walk = walk::follow(&view, translation.reads(), faulted);
         Explanation {
-            lines: match self.style {
-                Style::Words => walk_lines(heading, &walk, ending),
-                Style::Tree => tree::drawn(self.paint, heading, &walk, ending),
-            },
-            why: walk.stop.map(|stop| stop.to_string()),
+            lines: self.walk(&view, &walk, ending),
+            why: walk.end.err().map(|stop| stop.to_string()),
+        }
+    }
+
+    /// A hypervisor load or store: what it came to; if that was its access, each entry read for it and how it ended; where it
+    /// trapped, why the trap went there and what it wrote.
+    fn guest_access(
+        &self,
+        happened: &Happened<'_>,
+        access: &GuestAccess,
+        accessed: &GuestAccessed,
+    ) -> Explanation {
+        let mut explanation = events::event(happened, access.name(), accessed.outcome);
+        let GuestAccessed { outcome, value, .. } = *accessed;
+        if matches!(outcome, Outcome::Refused(_) | Outcome::Trapped(2 | 22)) {
+            return explanation;
+        }
+        let view = View::of_guest(happened.before, access);
+        let walk = walk::follow(&view, accessed.reads(), outcome != Outcome::Done);
+        let ending = match &walk.end {
+            Ok(address) => {
+                let words = guest::transferred(access, *address, value, happened.overwritten);
+                self.paint.good(&words)
+            }
+            Err(_) => {
+                let fault = guest::fault(happened.after);
+                self.paint.bad(&fault_words(fault, view.access.kind))
+            }
+        };
+        let lines = self.walk(&view, &walk, ending);
+        explanation.lines.splice(1..1, lines);
+        explanation.why = walk.end.err().map(|stop| stop.to_string());
+        explanation
+    }
+
+    /// A walk in the style that was asked for: the access, each entry read for it, and how it ended.
+    fn walk(&self, view: &View, walk: &Walk, ending: String) -> Vec<String> {
+        let heading = heading(view);
+        match self.style {
+            Style::Words => walk_lines(heading, walk, ending),
+            Style::Tree => tree::drawn(self.paint, heading, walk, ending),
         }
     }
 
@@ -119,17 +160,22 @@ fn kind(access: Access) -> &'static str {
 }
 
 /// The access, its effective mode and the stages that are on.
-fn heading(access: Access, view: &View) -> String {
+fn heading(view: &View) -> String {
+    let access = view.access;
     let stages = match (view.first.is_some(), view.second.is_some()) {
         (false, false) => "no stage is on",
         (true, false) => "the first stage is on",
         (false, true) => "the second stage is on",
         (true, true) => "both stages are on",
     };
-    let by = if view.by_mprv { ", by MPRV" } else { "" };
+    let by = view.by.map_or(String::new(), |by| format!(", by {by}"));
+    let needs = match (access.kind, view.needs) {
+        (Kind::Load, Right::X) => ", with X in place of R",
+        _ => "",
+    };
     let bytes = if access.width == 1 { "byte" } else { "bytes" };
     format!(
-        "{} of {:x} {bytes} at {:x} as {}{by}; {stages}",
+        "{} of {:x} {bytes} at {:x} as {}{by}{needs}; {stages}",
         kind(access),
         access.width,
         access.address,

@@ -3,12 +3,16 @@
 use crate::names;
 use crate::reason;
 use crate::script::Event;
-use balcumentri::{Accessed, Hart, Image, Outcome, Translation};
+use balcumentri::{Accessed, GuestAccessed, Hart, Image, Outcome, Translation};
 
 /// What an event came to.
 pub enum Came {
     Translated(Box<Translation>),
     Accessed(Accessed),
+    /// A hypervisor load.
+    Loaded(Box<GuestAccessed>),
+    /// A hypervisor store.
+    Stored(Box<GuestAccessed>),
     Stepped(Outcome),
     Shown,
 }
@@ -23,6 +27,8 @@ pub struct Happened<'a> {
     pub before: &'a Hart,
     pub after: &'a Hart,
     pub image: Image<'a>,
+    /// What was there before where a hypervisor store wrote.
+    pub overwritten: u64,
 }
 
 impl Happened<'_> {

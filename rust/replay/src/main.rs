@@ -5,6 +5,7 @@ mod events;
 mod explain;
 mod fields;
 mod forms;
+mod guest;
 mod happened;
 mod input;
 mod interrupts;
@@ -51,13 +52,14 @@ Events, each answered on standard output (WORD: the instruction's 32 bits; of a 
     fetch, load, store ADDRESS WIDTH
     read N WORD      write N VALUE WORD      set N VALUE WRITES WORD      clear N VALUE WRITES WORD
     mret, sret, wfi, sfence.vma, hfence.vvma, hfence.gvma WORD
+    hlv WIDTH SIGNED ADDRESS WORD      hlvx WIDTH ADDRESS WORD      hsv WIDTH ADDRESS VALUE WORD
     ecall  ebreak
     trap CAUSE VALUE SECOND WORD FLAG
     interrupt                       takes the interrupt that is due, if one is
     show                            the hart, as a script
 
 --explain adds, after each answer, lines that begin with `# ` and say in words what happened and why;
---explain=tree draws each translation's walk as a tree.
+--explain=tree draws each walk as a tree.
 Exit status: 0 the script was run whole, 1 a bad line, 2 the script or the output can't be used, or the command line is wrong.
 docs/REPLAY.md says more.
 ";

@@ -4,7 +4,7 @@
 use crate::names::{self, Mode};
 use crate::pending::{self, Way};
 use crate::registers::{self, get, stray, HGATP, HSTATUS, MSTATUS, SATP};
-use crate::script::{Event, Instruction};
+use crate::script::{Event, GuestAccess, Instruction, Transfer};
 use balcumentri::{Access, Fault, Hart, Image, Kind};
 
 /// Why an event was refused.
@@ -13,6 +13,7 @@ pub fn refused(number: u64, hart: &Hart, image: Image<'_>, event: &Event) -> Opt
         (2, _) => hart_refused(hart),
         (1, _) => image_refused(image),
         (3, Event::Translate(access)) => access_refused(access),
+        (3, Event::Guest(access, _)) => guest_access_refused(access),
         (4, Event::Trap(trap)) => trap_refused(hart, trap),
         (5, Event::Register(number, ..)) => Some(format!("register number {number:x} is over fff")),
         _ => None,
@@ -75,8 +76,8 @@ fn access_refused(access: &Access) -> Option<String> {
         address,
         width,
     } = *access;
-    if !matches!(width, 1 | 2 | 4 | 8) {
-        Some(format!("width {width:x} is none of 1, 2, 4 and 8"))
+    if !is_width(width) {
+        Some(no_width(width))
     } else if kind == Kind::Fetch && width != 4 {
         Some(format!("a fetch has width 4, not {width:x}"))
     } else if kind == Kind::Fetch && !address.is_multiple_of(4) {
@@ -86,6 +87,24 @@ fn access_refused(access: &Access) -> Option<String> {
     } else {
         None
     }
+}
+
+/// Refusal 3 of a hypervisor load or store.
+fn guest_access_refused(access: &GuestAccess) -> Option<String> {
+    let width = access.width;
+    if !is_width(width) {
+        return Some(no_width(width));
+    }
+    let executes = matches!(access.transfer, Transfer::LoadX);
+    (executes && !matches!(width, 2 | 4)).then(|| format!("HLVX has width 2 or 4, not {width:x}"))
+}
+
+fn is_width(width: u64) -> bool {
+    matches!(width, 1 | 2 | 4 | 8)
+}
+
+fn no_width(width: u64) -> String {
+    format!("width {width:x} is none of 1, 2, 4 and 8")
 }
 
 /// Refusal 4.
@@ -136,6 +155,7 @@ pub fn trapped(hart: &Hart, event: &Event) -> Option<String> {
     match *event {
         Event::Register(number, action, _) => register_trapped(hart, number, action.writes()),
         Event::Perform(instruction, _) => instruction_trapped(hart, instruction),
+        Event::Guest(access, _) => guest_access_trapped(hart, access),
         _ => None,
     }
 }
@@ -203,6 +223,14 @@ fn instruction_trapped(hart: &Hart, instruction: Instruction) -> Option<String> 
         (SfenceVma, Mode::Vs) => set(hart, HSTATUS, "VTVM"),
         _ => None,
     }
+}
+
+fn guest_access_trapped(hart: &Hart, access: GuestAccess) -> Option<String> {
+    let mode = Mode::of_hart(hart)?;
+    if mode.is_guest() {
+        return Some(format!("{} is out of reach in {mode}", access.name()));
+    }
+    (mode == Mode::U && !control(hart, HSTATUS, "HU")).then(|| "hstatus.HU is 0".to_owned())
 }
 
 /// Why an interrupt was taken.

@@ -71,6 +71,7 @@ pub const SSTATUS: u64 = 0x100;
 pub const SIE: u64 = 0x104;
 pub const STVEC: u64 = 0x105;
 pub const SCAUSE: u64 = 0x142;
+pub const STVAL: u64 = 0x143;
 pub const SIP: u64 = 0x144;
 pub const SATP: u64 = 0x180;
 pub const VSSTATUS: u64 = 0x200;
@@ -84,12 +85,17 @@ pub const MIDELEG: u64 = 0x303;
 pub const MIE: u64 = 0x304;
 pub const MTVEC: u64 = 0x305;
 pub const MCAUSE: u64 = 0x342;
+pub const MTVAL: u64 = 0x343;
 pub const MIP: u64 = 0x344;
+pub const MTINST: u64 = 0x34a;
+pub const MTVAL2: u64 = 0x34b;
 pub const HSTATUS: u64 = 0x600;
 pub const HIDELEG: u64 = 0x603;
 pub const HIE: u64 = 0x604;
+pub const HTVAL: u64 = 0x643;
 pub const HIP: u64 = 0x644;
 pub const HVIP: u64 = 0x645;
+pub const HTINST: u64 = 0x64a;
 pub const HGATP: u64 = 0x680;
 
 /// In rising order of number.
@@ -100,7 +106,7 @@ const REGISTERS: [Register; 41] = [
     whole(0x140, "sscratch"),
     epc(0x141, "sepc"),
     cause(SCAUSE, "scause"),
-    whole(0x143, "stval"),
+    whole(STVAL, "stval"),
     with_fields(SIP, "sip", fields::SIP),
     with_fields(SATP, "satp", fields::SATP),
     with_fields(VSSTATUS, "vsstatus", fields::SSTATUS),
@@ -120,19 +126,19 @@ const REGISTERS: [Register; 41] = [
     whole(0x340, "mscratch"),
     epc(0x341, "mepc"),
     cause(MCAUSE, "mcause"),
-    whole(0x343, "mtval"),
+    whole(MTVAL, "mtval"),
     with_fields(MIP, "mip", fields::MIP),
-    whole(0x34a, "mtinst"),
-    whole(0x34b, "mtval2"),
+    whole(MTINST, "mtinst"),
+    whole(MTVAL2, "mtval2"),
     with_fields(HSTATUS, "hstatus", fields::HSTATUS),
     with_bits(0x602, "hedeleg", Shape::Causes, 0xb1ff),
     delegates(HIDELEG, "hideleg", fields::VS_INTERRUPTS),
     with_fields(HIE, "hie", fields::VS_INTERRUPTS),
     with_bits(0x607, "hgeie", Shape::Number, 0),
-    whole(0x643, "htval"),
+    whole(HTVAL, "htval"),
     with_fields(HIP, "hip", fields::HIP),
     with_fields(HVIP, "hvip", fields::VS_INTERRUPTS),
-    whole(0x64a, "htinst"),
+    whole(HTINST, "htinst"),
     with_bits(HGATP, "hgatp", Shape::Fields(fields::HGATP), !(3 << 58 | 3)),
     with_bits(0xe12, "hgeip", Shape::Number, 0),
 ];

@@ -4,16 +4,16 @@ use crate::explain::Explainer;
 use crate::happened::{Came, Happened};
 use crate::input::{Lines, Stop};
 use crate::scene::Scene;
-use crate::script::{self, Action, Command, Event, Instruction, Mistake};
-use balcumentri::{Answer, Hart, Outcome, Translation};
+use crate::script::{self, Action, Command, Event, GuestAccess, Instruction, Mistake, Transfer};
+use balcumentri::{Answer, Hart, Outcome, Read, Translation};
 use std::ffi::OsStr;
-use std::io::{self, Read, Write};
+use std::io::{self, Write};
 use std::os::unix::ffi::OsStrExt;
 use std::path::Path;
 
 /// Runs a script to its end, or to its first bad line. The paths of its `file` lines start from the folder.
 pub fn run(
-    script: impl Read,
+    script: impl io::Read,
     folder: &Path,
     explainer: Option<Explainer>,
     out: &mut impl Write,
@@ -26,6 +26,10 @@ pub fn run(
             None => {}
             Some(Command::Event(event)) => {
                 let before = scene.hart;
+                let overwritten = match explainer {
+                    Some(_) => overwritten(&event, &scene),
+                    None => 0,
+                };
                 let came = perform(&event, &mut scene);
                 write_answer(out, &came, &scene.hart).map_err(Stop::Answers)?;
                 if let Some(explainer) = &explainer {
@@ -37,6 +41,7 @@ pub fn run(
                         before: &before,
                         after: &scene.hart,
                         image: scene.image(),
+                        overwritten,
                     };
                     explainer.explain(out, &happened).map_err(Stop::Answers)?;
                 }
@@ -94,8 +99,46 @@ fn perform(event: &Event, scene: &mut Scene) -> Came {
             Instruction::HfenceVvma => hart.hfence_vvma(word),
             Instruction::HfenceGvma => hart.hfence_gvma(word),
         }),
+        Event::Guest(access, word) => perform_guest(access, word, scene),
         Event::Interrupt => Came::Stepped(hart.interrupt()),
         Event::Show => Came::Shown,
+    }
+}
+
+/// Performs a hypervisor load or store.
+fn perform_guest(access: GuestAccess, word: u32, scene: &mut Scene) -> Came {
+    let GuestAccess {
+        transfer,
+        width,
+        address,
+    } = access;
+    let (hart, mut image) = scene.parts();
+    match transfer {
+        Transfer::Load { signed } => {
+            let loaded = hart.hlv(image.as_image(), width, signed, address, word);
+            Came::Loaded(Box::new(loaded))
+        }
+        Transfer::LoadX => {
+            let loaded = hart.hlvx(image.as_image(), width, address, word);
+            Came::Loaded(Box::new(loaded))
+        }
+        Transfer::Store { value } => {
+            let stored = hart.hsv(&mut image, width, address, value, word);
+            Came::Stored(Box::new(stored))
+        }
+    }
+}
+
+/// What is there where an HSV will store, if it is done: what an HLV loads. Wherever the one may store the other may load, since
+/// W needs R. Of any other event 0.
+fn overwritten(event: &Event, scene: &Scene) -> u64 {
+    match *event {
+        Event::Guest(access, word) if matches!(access.transfer, Transfer::Store { .. }) => {
+            let (mut hart, image) = (scene.hart, scene.image());
+            let there = hart.hlv(image, access.width, false, access.address, word);
+            there.value
+        }
+        _ => 0,
     }
 }
 
@@ -103,15 +146,33 @@ fn perform(event: &Event, scene: &mut Scene) -> Came {
 fn write_answer(out: &mut impl Write, came: &Came, hart: &Hart) -> io::Result<()> {
     match came {
         Came::Translated(translation) => write_translation(out, translation),
-        Came::Accessed(accessed) => match accessed.outcome {
-            Outcome::Refused(number) => writeln!(out, "refused {number:x}"),
-            _ => writeln!(out, "value {:x}", accessed.value),
-        },
-        Came::Stepped(outcome) => match outcome {
-            Outcome::Refused(number) => writeln!(out, "refused {number:x}"),
-            _ => writeln!(out, "ok"),
-        },
+        Came::Accessed(accessed) => write_value(out, accessed.outcome, accessed.value),
+        Came::Loaded(loaded) => {
+            write_value(out, loaded.outcome, loaded.value)?;
+            write_reads(out, loaded.reads())
+        }
+        Came::Stored(stored) => {
+            write_step(out, stored.outcome)?;
+            write_reads(out, stored.reads())
+        }
+        Came::Stepped(outcome) => write_step(out, *outcome),
         Came::Shown => write_hart(out, hart),
+    }
+}
+
+/// What an event that answers a value came to.
+fn write_value(out: &mut impl Write, outcome: Outcome, value: u64) -> io::Result<()> {
+    match outcome {
+        Outcome::Refused(number) => writeln!(out, "refused {number:x}"),
+        _ => writeln!(out, "value {value:x}"),
+    }
+}
+
+/// What an event that answers no value came to.
+fn write_step(out: &mut impl Write, outcome: Outcome) -> io::Result<()> {
+    match outcome {
+        Outcome::Refused(number) => writeln!(out, "refused {number:x}"),
+        _ => writeln!(out, "ok"),
     }
 }
 
@@ -129,7 +190,12 @@ fn write_translation(out: &mut impl Write, translation: &Translation) -> io::Res
             u64::from(fault.flag)
         )?,
     }
-    for read in translation.reads() {
+    write_reads(out, translation.reads())
+}
+
+/// The list.
+fn write_reads(out: &mut impl Write, reads: &[Read]) -> io::Result<()> {
+    for read in reads {
         writeln!(
             out,
             "read {:x} {:x} {:x} {:x}",

@@ -3,7 +3,7 @@
 use crate::registers;
 use crate::suggest::shown;
 use crate::views;
-use balcumentri::{Hart, Image};
+use balcumentri::{Hart, Image, ImageMut};
 use std::fs::File;
 use std::io::{self, Read};
 use std::path::Path;
@@ -36,6 +36,15 @@ impl Scene {
             base: self.base,
             bytes: &self.bytes,
         }
+    }
+
+    /// The hart and the image, for an event that may change both.
+    pub fn parts(&mut self) -> (&mut Hart, ImageMut<'_>) {
+        let image = ImageMut {
+            base: self.base,
+            bytes: &mut self.bytes,
+        };
+        (&mut self.hart, image)
     }
 
     /// A new image of zero bytes.

@@ -29,6 +29,48 @@ impl Instruction {
     }
 }
 
+/// A hypervisor load or store.
+#[derive(Clone, Copy)]
+pub struct GuestAccess {
+    pub transfer: Transfer,
+    pub width: u64,
+    pub address: u64,
+}
+
+/// What a hypervisor load or store does.
+#[derive(Clone, Copy)]
+pub enum Transfer {
+    /// HLV; whether it sign-extends.
+    Load { signed: bool },
+    /// HLVX.
+    LoadX,
+    /// HSV.
+    Store { value: u64 },
+}
+
+impl GuestAccess {
+    /// The manual's name, without the width.
+    pub fn name(&self) -> &'static str {
+        match self.transfer {
+            Transfer::Load { .. } => "HLV",
+            Transfer::LoadX => "HLVX",
+            Transfer::Store { .. } => "HSV",
+        }
+    }
+
+    /// What is translated.
+    pub fn access(&self) -> Access {
+        Access {
+            kind: match self.transfer {
+                Transfer::Load { .. } | Transfer::LoadX => Kind::Load,
+                Transfer::Store { .. } => Kind::Store,
+            },
+            address: self.address,
+            width: self.width,
+        }
+    }
+}
+
 /// What is done to a register; the flag of a set and a clear says whether it writes.
 #[derive(Clone, Copy)]
 pub enum Action {
@@ -86,7 +128,8 @@ pub enum Command<'a> {
     Event(Event),
 }
 
-/// What has an answer. The last number of a register access and of what is performed is the instruction's word.
+/// What has an answer. The last number of a register access, of what is performed and of a hypervisor load or store is the
+/// instruction's word.
 #[derive(Clone, Copy)]
 pub enum Event {
     Translate(Access),
@@ -95,6 +138,7 @@ pub enum Event {
     Ecall,
     Ebreak,
     Perform(Instruction, u32),
+    Guest(GuestAccess, u32),
     /// The interrupt that is due is taken.
     Interrupt,
     Show,
@@ -163,6 +207,14 @@ fn command(word: &str, [a, b, c, d, e]: [u64; MOST]) -> Command<'static> {
     // a word of more than 32 bits does not come here: its line is bad
     let register = |action, word| Event::Register(a, action, word as u32);
     let perform = |instruction| Event::Perform(instruction, a as u32);
+    let guest = |transfer, address, word| {
+        let access = GuestAccess {
+            transfer,
+            width: a,
+            address,
+        };
+        Event::Guest(access, word as u32)
+    };
     Command::Event(match word {
         "image" => return Command::Image { base: a, length: b },
         "put" => {
@@ -207,6 +259,9 @@ fn command(word: &str, [a, b, c, d, e]: [u64; MOST]) -> Command<'static> {
         "hfence.vvma" => perform(Instruction::HfenceVvma),
         "hfence.gvma" => perform(Instruction::HfenceGvma),
         "interrupt" => Event::Interrupt,
+        "hlv" => guest(Transfer::Load { signed: b == 1 }, c, d),
+        "hlvx" => guest(Transfer::LoadX, b, c),
+        "hsv" => guest(Transfer::Store { value: c }, b, d),
         _ => Event::Show,
     })
 }
@@ -256,7 +311,9 @@ impl<'a> Words<'a> {
             Mistake::at(at, suggest::number(word, register))
         })?;
         let sentence = match name {
-            "WRITES" | "FLAG" if number > 1 => format!("{name} is 0 or 1, not {number:x}"),
+            "WRITES" | "FLAG" | "SIGNED" if number > 1 => {
+                format!("{name} is 0 or 1, not {number:x}")
+            }
             "WORD" if form.is_worded() && number > u32::MAX.into() => suggest::long_word(number),
             _ => return Ok(number),
         };
@@ -282,7 +339,7 @@ impl<'a> Words<'a> {
     /// Something is missing where the next word would begin, behind a blank.
     fn missing(&self, form: &Form, name: &str) -> Mistake {
         let hint = match name {
-            "WORD" if form.is_worded() => suggest::NO_WORD,
+            "WORD" if form.is_worded() => suggest::no_word(form),
             _ => "",
         };
         let sentence = format!("{}; {name} is missing{hint}", form.usage());

@@ -1,6 +1,6 @@
 //! Sentences about words that are none of the language, with what to write instead.
 
-use crate::forms::{value, FORMS};
+use crate::forms::{value, Form, FORMS};
 use crate::registers;
 
 /// How many characters of a word or a path a sentence shows.
@@ -9,9 +9,16 @@ const SHOWN: usize = 40;
 /// The mark that some editors put before a text.
 const BYTE_ORDER_MARK: &[u8] = b"\xef\xbb\xbf";
 
-/// What follows where the word of an instruction is missing: scripts had none before 2026-02, when a trap's value was 0.
-pub const NO_WORD: &str =
-    ": the instruction's 32 bits, which older scripts lack; with 0 the answers are as they were";
+/// What follows where the word of an instruction is missing. Scripts had none before 2026-02, when a trap's value was 0; the
+/// hypervisor loads and stores came later.
+pub fn no_word(form: &Form) -> &'static str {
+    match form.word {
+        "hlv" | "hlvx" | "hsv" => ": the instruction's 32 bits",
+        _ => {
+            ": the instruction's 32 bits, which older scripts lack; with 0 the answers are as they were"
+        }
+    }
+}
 
 /// A word or a name in a sentence: printable, short, in quotes.
 pub fn shown(bytes: &[u8]) -> String {
@@ -58,6 +65,8 @@ pub fn word(text: &[u8]) -> String {
     let words: Vec<&str> = FORMS.iter().map(|form| form.word).collect();
     let hint = if words.iter().any(|word| word.as_bytes() == lower) {
         format!(": words are lower case, {}", shown(&lower))
+    } else if let Some(line) = with_width(&lower) {
+        format!(": the width is a number, {}", shown(line.as_bytes()))
     } else {
         let found = within(&lower, &words);
         meant(&if found.is_empty() {
@@ -67,6 +76,28 @@ pub fn word(text: &[u8]) -> String {
         })
     };
     format!("{} is no word of the language{hint}", shown(text))
+}
+
+/// The line for an access that was named as in the manual, with its width.
+fn with_width(lower: &[u8]) -> Option<String> {
+    let (name, ending) = std::str::from_utf8(lower).ok()?.split_once('.')?;
+    let form = FORMS.iter().find(|form| form.word == name)?;
+    let numbers = form.takes.contains(&"WIDTH").then_some(form.takes)?;
+    let width = match ending {
+        "b" | "bu" => 1,
+        "h" | "hu" => 2,
+        "w" | "wu" => 4,
+        "d" => 8,
+        _ => return None,
+    };
+    let signed = u8::from(!ending.ends_with('u'));
+    let numbers = numbers.iter().map(|number| match *number {
+        "WIDTH" => width.to_string(),
+        "SIGNED" => signed.to_string(),
+        number => number.to_owned(),
+    });
+    let numbers: Vec<String> = numbers.collect();
+    Some(format!("{name} {}", numbers.join(" ")))
 }
 
 /// A word where a number belongs, which may be that of a register.

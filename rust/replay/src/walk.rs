@@ -1,22 +1,32 @@
-//! A translation followed along its list of reads: in which table each entry stands, where it leads, and where and why the walk ended.
+//! An access followed along its list of reads: in which table each entry stands, where it leads, and where and why the walk ended.
 //! It explains answers and decides none.
 
 use crate::names::Mode;
-use crate::registers::{bits, get, HGATP, MSTATUS, SATP, VSATP, VSSTATUS};
-use balcumentri::{Access, Answer, Hart, Kind, Read, Translation};
+use crate::registers::{bits, get, HGATP, HSTATUS, MSTATUS, SATP, VSATP, VSSTATUS};
+use crate::script::{GuestAccess, Transfer};
+use balcumentri::{Access, Hart, Kind, Read};
 use std::fmt;
 use std::slice::Iter;
 
 /// The level of the root tables.
 const TOP: u64 = 2;
 
-/// What an access takes from the hart.
+/// The right that an access needs of a page. MXR lets X do for R.
+#[derive(Clone, Copy, PartialEq, Eq)]
+pub enum Right {
+    R,
+    W,
+    X,
+}
+
+/// An access, with what it takes from the hart.
 pub struct View {
-    kind: Kind,
+    pub access: Access,
+    pub needs: Right,
     /// The effective mode.
     pub mode: Mode,
-    /// Whether it is that of MPP and MPV, by MPRV.
-    pub by_mprv: bool,
+    /// The field that makes it so where it is not the hart's own: MPRV or SPVP.
+    pub by: Option<&'static str>,
     sum: bool,
     guest_mxr: bool,
     mxr: bool,
@@ -34,38 +44,76 @@ pub struct Table {
 }
 
 impl View {
-    /// None where the hart is in no mode.
-    pub fn new(hart: &Hart, kind: Kind) -> Option<Self> {
-        let register = |number| hart.register(number).unwrap_or(0);
-        let status = |name| get(MSTATUS, name, register(MSTATUS));
+    /// That of a fetch, load or store. None where the hart is in no mode.
+    pub fn of_access(hart: &Hart, access: Access) -> Option<Self> {
+        let status = |name| field(hart, MSTATUS, name);
         let mut mode = Mode::of_hart(hart)?;
-        let by_mprv = mode == Mode::M && kind != Kind::Fetch && status("MPRV") == 1;
+        let by_mprv = mode == Mode::M && access.kind != Kind::Fetch && status("MPRV") == 1;
         if by_mprv {
             let v = if status("MPP") == 3 { 0 } else { status("MPV") };
             mode = Mode::of(v, status("MPP"))?;
         }
+        let needs = match access.kind {
+            Kind::Fetch => Right::X,
+            Kind::Load => Right::R,
+            Kind::Store => Right::W,
+        };
+        let by = by_mprv.then_some("MPRV");
+        Some(View::in_mode(hart, access, needs, mode, by))
+    }
+
+    /// That of a hypervisor load or store.
+    pub fn of_guest(hart: &Hart, access: &GuestAccess) -> Self {
+        let mode = match field(hart, HSTATUS, "SPVP") {
+            0 => Mode::Vu,
+            _ => Mode::Vs,
+        };
+        let needs = match access.transfer {
+            Transfer::Load { .. } => Right::R,
+            Transfer::LoadX => Right::X,
+            Transfer::Store { .. } => Right::W,
+        };
+        View::in_mode(hart, access.access(), needs, mode, Some("SPVP"))
+    }
+
+    fn in_mode(
+        hart: &Hart,
+        access: Access,
+        needs: Right,
+        mode: Mode,
+        by: Option<&'static str>,
+    ) -> Self {
         let table = |number, part| {
-            let word = register(number);
-            let root = get(number, "PPN", word) << 12;
-            (get(number, "MODE", word) != 0).then_some(Table { part, root })
+            let root = field(hart, number, "PPN") << 12;
+            (field(hart, number, "MODE") != 0).then_some(Table { part, root })
         };
         let guest = mode.is_guest();
         let own = if guest { VSSTATUS } else { MSTATUS };
-        Some(View {
-            kind,
+        View {
+            access,
+            needs,
             mode,
-            by_mprv,
-            sum: get(own, "SUM", register(own)) == 1,
-            guest_mxr: get(VSSTATUS, "MXR", register(VSSTATUS)) == 1,
-            mxr: status("MXR") == 1,
+            by,
+            sum: field(hart, own, "SUM") == 1,
+            guest_mxr: field(hart, VSSTATUS, "MXR") == 1,
+            mxr: field(hart, MSTATUS, "MXR") == 1,
             first: match mode {
                 Mode::M => None,
                 _ if guest => table(VSATP, Part::Vsatp),
                 _ => table(SATP, Part::Satp),
             },
             second: table(HGATP, Part::Access).filter(|_| guest),
-        })
+        }
     }
+
+    fn is_fetch(&self) -> bool {
+        self.access.kind == Kind::Fetch
+    }
+}
+
+/// What a field of a stored register holds.
+fn field(hart: &Hart, number: u64, name: &str) -> u64 {
+    get(number, name, hart.register(number).unwrap_or(0))
 }
 
 /// A part of a walk.
@@ -129,31 +177,23 @@ impl fmt::Display for Stop {
     }
 }
 
-/// A walk: its first stage, its second stage for the access, and why it ended if that was a fault.
+/// A walk: its first stage, its second stage for the access, and the machine address that it came to, or why it ended with a fault.
 pub struct Walk {
     pub first: Option<Stage>,
     pub second: Option<Stage>,
-    pub stop: Option<Stop>,
+    pub end: Result<u64, Stop>,
 }
 
-/// Follows a translation that was not refused.
-pub fn follow(view: &View, access: Access, translation: &Translation) -> Walk {
-    let mut walk = Walk {
-        first: None,
-        second: None,
-        stop: None,
+/// Follows an access that was not refused along the entries read for it. It either faulted or came to its end.
+pub fn follow(view: &View, reads: &[Read], faulted: bool) -> Walk {
+    let reads = reads.iter();
+    let (mut first, mut second) = (None, None);
+    let reached = Follower { view, reads }.walk(&mut first, &mut second);
+    let end = match reached {
+        Ok(address) if faulted => Err(at_access(outside(address))),
+        reached => reached,
     };
-    let mut follower = Follower {
-        view,
-        reads: translation.reads().iter(),
-    };
-    walk.stop = follower.walk(
-        access,
-        translation.answer(),
-        &mut walk.first,
-        &mut walk.second,
-    );
-    walk
+    Walk { first, second, end }
 }
 
 struct Follower<'a> {
@@ -162,33 +202,20 @@ struct Follower<'a> {
 }
 
 impl Follower<'_> {
-    fn walk(
-        &mut self,
-        access: Access,
-        answer: Answer,
-        first: &mut Option<Stage>,
-        second: &mut Option<Stage>,
-    ) -> Option<Stop> {
-        let Access { address, width, .. } = access;
+    /// Follows the stages, each put into its place; the machine address that they yield, or why they don't.
+    fn walk(&mut self, first: &mut Option<Stage>, second: &mut Option<Stage>) -> Result<u64, Stop> {
+        let Access { address, width, .. } = self.view.access;
         if !address.is_multiple_of(width) {
-            return Some(at_access(format!(
-                "{address:x} is not a multiple of {width:x}"
-            )));
+            let rule = format!("{address:x} is not a multiple of {width:x}");
+            return Err(at_access(rule));
         }
         let mut reached = address;
         for (table, stage) in [(self.view.first, first), (self.view.second, second)] {
             if let Some(table) = table {
-                let result = self.stage(table, reached, stage);
-                match result {
-                    Ok(address) => reached = address,
-                    Err(stop) => return Some(stop),
-                }
+                reached = self.stage(table, reached, stage)?;
             }
         }
-        match answer {
-            Answer::Fault(_) => Some(at_access(outside(reached))),
-            Answer::Address(_) | Answer::Refused(_) => None,
-        }
+        Ok(reached)
     }
 
     /// Follows a stage, which is put into `stage`; what it yields, or why it doesn't.
@@ -275,14 +302,11 @@ impl Follower<'_> {
 
     /// The rules of a leaf alone.
     fn leaf(&self, part: Part, entry: u64) -> Result<(), &'static str> {
-        let kind = match part {
-            Part::GuestEntry => Kind::Load,
-            _ => self.view.kind,
-        };
+        let stores = self.view.needs == Right::W && part != Part::GuestEntry;
         if !has(entry, A) {
             return Err("A is 0");
         }
-        if kind == Kind::Store && !has(entry, D) {
+        if stores && !has(entry, D) {
             return Err("a store needs D");
         }
         if part.is_first() {
@@ -290,31 +314,37 @@ impl Follower<'_> {
         } else if !has(entry, U) {
             return Err("the second stage needs U");
         }
+        self.right(part, entry)
+    }
+
+    /// The rule about the right that the access needs of its page, or the hart of a guest entry's.
+    fn right(&self, part: Part, entry: u64) -> Result<(), &'static str> {
         let View { mxr, guest_mxr, .. } = *self.view;
-        let (opens, load) = match part {
-            Part::Satp | Part::Access => (mxr, "a load needs R, or X with mstatus.MXR"),
-            Part::Vsatp => {
-                let load = "a load needs R, or X with vsstatus.MXR or mstatus.MXR";
-                (mxr || guest_mxr, load)
+        let reads = |opens| has(entry, R) || opens && has(entry, X);
+        let (allowed, rule) = match (part, self.view.needs) {
+            (Part::GuestEntry, _) => (reads(false), "a read of a guest entry needs R"),
+            (_, Right::W) => (has(entry, W), "a store needs W"),
+            (_, Right::X) if self.view.is_fetch() => (has(entry, X), "a fetch needs X"),
+            (_, Right::X) => (has(entry, X), "HLVX needs X"),
+            (Part::Vsatp, Right::R) => {
+                let rule = "a load needs R, or X with vsstatus.MXR or mstatus.MXR";
+                (reads(mxr || guest_mxr), rule)
             }
-            Part::GuestEntry => (false, "a read of a guest entry needs R"),
+            (_, Right::R) => (reads(mxr), "a load needs R, or X with mstatus.MXR"),
         };
-        match kind {
-            Kind::Load if !(has(entry, R) || opens && has(entry, X)) => Err(load),
-            Kind::Store if !has(entry, W) => Err("a store needs W"),
-            Kind::Fetch if !has(entry, X) => Err("a fetch needs X"),
-            _ => Ok(()),
+        if allowed {
+            Ok(())
+        } else {
+            Err(rule)
         }
     }
 
     /// The first stage's rules about U.
     fn user(&self, entry: u64) -> Result<(), &'static str> {
-        let View {
-            mode, sum, kind, ..
-        } = *self.view;
+        let View { mode, sum, .. } = *self.view;
         match (mode.is_user(), has(entry, U)) {
             (true, false) => Err("user mode needs U"),
-            (false, true) if kind == Kind::Fetch => {
+            (false, true) if self.view.is_fetch() => {
                 Err("supervisor mode may not fetch from a U page")
             }
             (false, true) if !sum && mode.is_guest() => {

@@ -2,12 +2,13 @@
 //! scripts and decides no answer.
 
 use crate::registers;
-use crate::script::{Action, Event, Instruction};
+use crate::script::{Action, Event, GuestAccess, Instruction, Transfer};
 use std::fmt;
 
 /// What the word of an event is, if the event has one.
 pub fn described(event: &Event) -> Option<String> {
-    let (Event::Register(.., word) | Event::Perform(_, word)) = *event else {
+    let (Event::Register(.., word) | Event::Perform(_, word) | Event::Guest(_, word)) = *event
+    else {
         return None;
     };
     let decoded = Decoded::of(word);
@@ -28,6 +29,7 @@ enum Decoded {
     /// A fence, with the general registers that hold its address and its ASID or VMID; with x0 it is for all.
     Fence(Instruction, u32, u32),
     Access(Access),
+    Guest(Guest),
     OtherSystem,
     NoSystem,
 }
@@ -59,6 +61,26 @@ enum Source {
     Number(u32),
 }
 
+/// A hypervisor load or store.
+struct Guest {
+    operation: Operation,
+    /// The width's place among 1, 2, 4 and 8.
+    size: u32,
+    /// The general register that holds the address.
+    address: u32,
+    /// The general register that is loaded or stored.
+    data: u32,
+}
+
+/// What a hypervisor load or store does.
+#[derive(Clone, Copy, PartialEq, Eq)]
+enum Operation {
+    Load,
+    LoadUnsigned,
+    LoadX,
+    Store,
+}
+
 /// The bits from high to low.
 fn bits(word: u32, high: u32, low: u32) -> u32 {
     word << (31 - high) >> (31 - high + low)
@@ -87,7 +109,7 @@ impl Decoded {
             (_, 0x09, 0) => fence(Instruction::SfenceVma),
             (_, 0x11, 0) => fence(Instruction::HfenceVvma),
             (_, 0x31, 0) => fence(Instruction::HfenceGvma),
-            _ => Decoded::OtherSystem,
+            _ => Guest::of(word).map_or(Decoded::OtherSystem, Decoded::Guest),
         }
     }
 
@@ -100,6 +122,7 @@ impl Decoded {
             (Decoded::Access(access), Event::Register(number, action, _)) => {
                 access.number == *number && access.does(*action)
             }
+            (Decoded::Guest(guest), Event::Guest(access, _)) => guest.does(access),
             _ => false,
         }
     }
@@ -147,6 +170,43 @@ impl Access {
     }
 }
 
+impl Guest {
+    /// None where the word is no hypervisor load or store.
+    fn of(word: u32) -> Option<Self> {
+        let (size, target) = (bits(word, 27, 26), bits(word, 11, 7));
+        let operation = match (bits(word, 25, 25), bits(word, 24, 20), size) {
+            (0, 0, _) => Operation::Load,
+            (0, 1, 0..=2) => Operation::LoadUnsigned,
+            (0, 3, 1..=2) => Operation::LoadX,
+            (1, ..) if target == 0 => Operation::Store,
+            _ => return None,
+        };
+        let guest = Guest {
+            operation,
+            size,
+            address: bits(word, 19, 15),
+            data: match operation {
+                Operation::Store => bits(word, 24, 20),
+                _ => target,
+            },
+        };
+        (bits(word, 31, 28) == 6 && bits(word, 14, 12) == 4).then_some(guest)
+    }
+
+    /// Whether the access can be this instruction's.
+    fn does(&self, access: &GuestAccess) -> bool {
+        let holds = |register, value| Source::Register(register).gives(value);
+        let transfers = match (self.operation, access.transfer) {
+            (Operation::Load, Transfer::Load { signed }) => signed || access.width == 8,
+            (Operation::LoadUnsigned, Transfer::Load { signed }) => !signed,
+            (Operation::LoadX, Transfer::LoadX) => true,
+            (Operation::Store, Transfer::Store { value }) => holds(self.data, value),
+            _ => false,
+        };
+        transfers && access.width == 1 << self.size && holds(self.address, access.address)
+    }
+}
+
 impl Source {
     /// x0, or the number 0.
     fn is_zero(self) -> bool {
@@ -177,6 +237,7 @@ impl fmt::Display for Decoded {
                 write!(text, "{}: {address}, {space}", instruction.name())
             }
             Decoded::Access(access) => write!(text, "{access}"),
+            Decoded::Guest(guest) => write!(text, "{guest}"),
             Decoded::OtherSystem => {
                 text.write_str("a SYSTEM instruction that the model has no event for")
             }
@@ -209,6 +270,32 @@ impl fmt::Display for Access {
         write!(
             text,
             "{name}: {done} {register}, the old value to x{target}"
+        )
+    }
+}
+
+impl fmt::Display for Guest {
+    fn fmt(&self, text: &mut fmt::Formatter<'_>) -> fmt::Result {
+        let (name, ending) = match self.operation {
+            Operation::Load => ("HLV", ""),
+            Operation::LoadUnsigned => ("HLV", "U"),
+            Operation::LoadX => ("HLVX", "U"),
+            Operation::Store => ("HSV", ""),
+        };
+        let width = match self.size {
+            0 => "B",
+            1 => "H",
+            2 => "W",
+            _ => "D",
+        };
+        let done = match self.operation {
+            Operation::Store => "stored at",
+            _ => "loaded from",
+        };
+        let (data, address) = (self.data, self.address);
+        write!(
+            text,
+            "{name}.{width}{ending}: x{data} {done} the address in x{address}"
         )
     }
 }
@@ -289,10 +376,83 @@ mod tests {
         }
         // bits 14:12 are 4; the word of a fence with bits 14:7, or with another number in 31:25
         for word in [
-            "4073", "6c054573", "120000f3", "12004073", "16000073", "92000073", "80000073",
+            "4073", "120000f3", "12004073", "16000073", "92000073", "80000073",
         ] {
             differs(&format!("sfence.vma {word}"), OTHER);
         }
+    }
+
+    #[test]
+    fn words_beside_those_of_hypervisor_loads_and_stores() {
+        // no HLV.DU, HLVX.BU and HLVX.DU; no other number in bits 24:20
+        for word in [
+            "6c154573", "60354573", "6c354573", "60254573", "64254573", "64454573", "69f54573",
+        ] {
+            differs(&format!("hlvx 4 0 {word}"), OTHER);
+        }
+        // a store has no target; bits 31:28 are 6, and 14:12 are 4
+        for word in [
+            "62b540f3", "6eb54873", "70054573", "e0054573", "20054573", "40054573", "60050573",
+        ] {
+            differs(&format!("hsv 8 0 0 {word}"), OTHER);
+        }
+        differs("hlv 8 1 0 6c054572", NONE);
+        differs("hlv 1 1 0 60007573", "CSRRCI: hstatus (600) read to x10");
+    }
+
+    /// The hypervisor loads and stores: an event without its word, the word, and the instruction's name.
+    const GUEST: [(&str, &str, &str); 13] = [
+        ("hlv 1 1 5", "60054573", "HLV.B"),
+        ("hlv 2 1 5", "64054573", "HLV.H"),
+        ("hlv 4 1 5", "68054573", "HLV.W"),
+        ("hlv 8 1 5", "6c054573", "HLV.D"),
+        ("hlv 1 0 5", "60154573", "HLV.BU"),
+        ("hlv 2 0 5", "64154573", "HLV.HU"),
+        ("hlv 4 0 5", "68154573", "HLV.WU"),
+        ("hlvx 2 5", "64354573", "HLVX.HU"),
+        ("hlvx 4 5", "68354573", "HLVX.WU"),
+        ("hsv 1 5 7", "62a54073", "HSV.B"),
+        ("hsv 2 5 7", "66a54073", "HSV.H"),
+        ("hsv 4 5 7", "6aa54073", "HSV.W"),
+        ("hsv 8 5 7", "6ea54073", "HSV.D"),
+    ];
+
+    #[test]
+    fn hypervisor_loads_and_stores() {
+        for (place, (event, word, name)) in GUEST.iter().enumerate() {
+            let done = match place {
+                0..9 => "loaded from",
+                _ => "stored at",
+            };
+            let instruction = format!("{name}: x10 {done} the address in x10");
+            fits(&format!("{event} {word}"), &instruction);
+            for (other, (event, ..)) in GUEST.iter().enumerate() {
+                if other != place {
+                    differs(&format!("{event} {word}"), &instruction);
+                }
+            }
+            for event in ["wfi", "hfence.gvma", "read 600", "hlv 3 1 0", "hlvx 8 0"] {
+                differs(&format!("{event} {word}"), &instruction);
+            }
+        }
+        let signs = "HLV.D: x31 loaded from the address in x1";
+        fits("hlv 8 0 5 6c00cff3", signs);
+    }
+
+    #[test]
+    fn general_registers_of_hypervisor_loads_and_stores() {
+        let from_x0 = "HLV.D: x0 loaded from the address in x0";
+        fits("hlv 8 1 0 6c004073", from_x0);
+        differs("hlv 8 1 8 6c004073", from_x0);
+        let executes = "HLVX.HU: x1 loaded from the address in x0";
+        fits("hlvx 2 0 643040f3", executes);
+        differs("hlvx 2 10000000000 643040f3", executes);
+        let zero = "HSV.W: x0 stored at the address in x31";
+        fits("hsv 4 ffffffffffffffff 0 6a0fc073", zero);
+        differs("hsv 4 ffffffffffffffff 100000000 6a0fc073", zero);
+        let at_zero = "HSV.B: x31 stored at the address in x0";
+        fits("hsv 1 0 ffffffffffffffff 63f04073", at_zero);
+        differs("hsv 1 1 ffffffffffffffff 63f04073", at_zero);
     }
 
     #[test]

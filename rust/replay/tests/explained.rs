@@ -599,6 +599,254 @@ fn a_cause_register_names_an_interrupt() {
     );
 }
 
+/// A hart in HS whose guest has both stages on: leaves of 1 GiB with these rights, and two bytes at machine address 80005008.
+fn guest(first: u64, second: u64) -> String {
+    format!(
+        "image 80000000 6000\nput 80000028 {:x}\nput 80004008 {:x}\nput 80005008 80ff\n\
+         hart 0 1 1000\nreg 280 8000000000140004\nreg 680 8000000000080000\nreg 600 200000100\nreg 105 2000\nreg 302 a0a0f0\n",
+        0x2000_0000 | second,
+        0x5000_0000 | first
+    )
+}
+
+/// What is said of an event beside the entries read for it.
+fn without_entries(script: &str) -> Vec<String> {
+    let mut said = lines(script);
+    said.retain(|line| !line.starts_with("first stage, ") && !line.starts_with("second stage"));
+    said
+}
+
+#[test]
+fn a_hypervisor_load_says_what_it_reached() {
+    let script = guest(0xcf, 0xdf);
+    assert_eq!(
+        all_lines(&format!("{script}hlv 2 1 40005008 64054573\n")),
+        [
+            "HLV in HS at 1000: done, on in HS at 1004",
+            "load of 2 bytes at 40005008 as VS, by SPVP; both stages are on",
+            "second stage for guest physical 140004008, the guest entry at level 2:",
+            "second stage, level 2, entry at 80000028: VRWXU-AD, a leaf: the 1 GiB page at 80000000",
+            "first stage, level 2, entry at 80004008 (guest physical 140004008): VRWX--AD, a leaf: the 1 GiB page at guest physical 140000000",
+            "second stage for guest physical 140005008, the access:",
+            "second stage, level 2, entry at 80000028: VRWXU-AD, a leaf: the 1 GiB page at 80000000",
+            "it reaches machine address 80005008: 80ff there, sign-extended to ffffffffffff80ff",
+            "word: 64054573 is HLV.H: x10 loaded from the address in x10",
+        ]
+    );
+    let ended = |event: &str| without_entries(&format!("{script}{event}\n"))[1..].to_vec();
+    assert_eq!(
+        ended("hlv 1 0 40005009 0"),
+        [
+            "load of 1 byte at 40005009 as VS, by SPVP; both stages are on",
+            "it reaches machine address 80005009: 80 there, zero-extended to 80",
+        ]
+    );
+    assert_eq!(
+        ended("hlv 8 1 40005008 0")[1],
+        "it reaches machine address 80005008: 80ff there"
+    );
+    assert_eq!(
+        ended("hlvx 4 40005008 0"),
+        [
+            "load of 4 bytes at 40005008 as VS, by SPVP, with X in place of R; both stages are on",
+            "it reaches machine address 80005008: 80ff there, zero-extended to 80ff",
+        ]
+    );
+}
+
+#[test]
+fn a_hypervisor_store_says_what_it_wrote_over() {
+    let script = guest(0xdf, 0xdf) + "reg 600 200000000\n";
+    let said = without_entries(&format!(
+        "{script}hsv 2 40005008 123 0\nhsv 8 40005008 5500 0\nreg 280 0\nreg 680 0\nhsv 1 80005009 ffff 0\n"
+    ));
+    assert_eq!(
+        said,
+        [
+            "HSV in HS at 1000: done, on in HS at 1004",
+            "store of 2 bytes at 40005008 as VU, by SPVP; both stages are on",
+            "it reaches machine address 80005008: 123 stored there, it held 80ff",
+            "HSV in HS at 1004: done, on in HS at 1008",
+            "store of 8 bytes at 40005008 as VU, by SPVP; both stages are on",
+            "it reaches machine address 80005008: 5500 stored there, it held 123",
+            "HSV in HS at 1008: done, on in HS at 100c",
+            "store of 1 byte at 80005009 as VU, by SPVP; no stage is on",
+            "it reaches machine address 80005009: ff stored there, it held 55",
+        ]
+    );
+}
+
+#[test]
+fn a_hypervisor_load_that_faults_says_why_and_where_it_went() {
+    assert_eq!(
+        without_entries(&format!("{}hlv 8 1 40005008 0\n", guest(0xcf, 0xd9))),
+        [
+            "HLV in HS at 1000: load guest-page fault (15) goes to HS at 2000",
+            "load of 8 bytes at 40005008 as VS, by SPVP; both stages are on",
+            "load guest-page fault (15): value 40005008, second value 50001002 (a guest physical address, shifted right by 2), word 3000 (the hart's own read of a guest entry)",
+            "to HS: medeleg hands it down",
+            "it wrote hstatus SPV 0, GVA 1; mstatus SPP 1, SPIE 0, SIE 0; sepc 1000; scause 15; stval 40005008; htval 50001002; htinst 3000",
+            "why: second stage for the guest entry at 140004008, level 2: a read of a guest entry needs R",
+        ]
+    );
+    let in_machine_mode = guest(0xcf, 0xcf).replace("hart 0 1", "hart 0 3");
+    assert_eq!(
+        without_entries(&format!("{in_machine_mode}hsv 4 40005008 0 0\n")),
+        [
+            "HSV in M at 1000: load guest-page fault (15) goes to M at 0",
+            "store of 4 bytes at 40005008 as VS, by SPVP; both stages are on",
+            "load guest-page fault (15): value 40005008, second value 50001002 (a guest physical address, shifted right by 2), word 3000 (the hart's own read of a guest entry; the manual has 17 for a store)",
+            "to M: a trap from M stays there",
+            "it wrote mstatus MPV 0, MPP 3, MPIE 0, MIE 0, GVA 1; mepc 1000; mcause 15; mtval 40005008; mtval2 50001002; mtinst 3000",
+            "why: second stage for the guest entry at 140004008, level 2: the second stage needs U",
+        ]
+    );
+}
+
+/// The reasons of hypervisor loads and stores, beside those that translations have too.
+#[test]
+fn the_reasons_of_hypervisor_loads_and_stores() {
+    let reason = |scene: &str, event: &str| {
+        let said = lines(&format!("{scene}{event} 0\n"));
+        let why = said.last().and_then(|line| line.strip_prefix("why: "));
+        why.unwrap_or_default().to_owned()
+    };
+    let first = "first stage (vsatp), level 2";
+    let second = "second stage for the access at 140005008, level 2";
+    for (scene, event, why) in [
+        (
+            guest(0xc7, 0xdf),
+            "hlvx 4 40005008",
+            format!("{first}: HLVX needs X"),
+        ),
+        (
+            guest(0xcf, 0xd7),
+            "hlvx 4 40005008",
+            format!("{second}: HLVX needs X"),
+        ),
+        (
+            guest(0xc3, 0xd3) + "reg 300 a00080000\n",
+            "hlvx 4 40005008",
+            format!("{first}: HLVX needs X"),
+        ),
+        (
+            guest(0xc9, 0xdf),
+            "hlv 1 1 40005008",
+            format!("{first}: a load needs R, or X with vsstatus.MXR or mstatus.MXR"),
+        ),
+        (
+            guest(0xc9, 0xdf) + "reg 200 200080000\n",
+            "hlv 1 1 40005008",
+            String::new(),
+        ),
+        (
+            guest(0xcb, 0xdf),
+            "hsv 1 40005008 0",
+            format!("{first}: a store needs W"),
+        ),
+        (
+            guest(0xcf, 0x5f),
+            "hsv 1 40005008 0",
+            format!("{second}: a store needs D"),
+        ),
+        (
+            guest(0xdf, 0xdf),
+            "hlvx 2 40005008",
+            format!("{first}: supervisor mode needs vsstatus.SUM on a U page"),
+        ),
+        (
+            guest(0xdf, 0xdf) + "reg 300 a00040000\n",
+            "hlv 2 1 40005008",
+            format!("{first}: supervisor mode needs vsstatus.SUM on a U page"),
+        ),
+        (
+            guest(0xcf, 0xdf) + "reg 600 200000000\n",
+            "hsv 2 40005008 0",
+            format!("{first}: user mode needs U"),
+        ),
+        (
+            guest(0xcf, 0xdf),
+            "hsv 4 40005006 0",
+            "the access: 40005006 is not a multiple of 4".to_owned(),
+        ),
+        (
+            guest(0xcf, 0xdf),
+            "hlv 4 1 40006000",
+            "the access: 80006000 is outside the image: page 80006000 is missing".to_owned(),
+        ),
+        (
+            guest(0xcf, 0xdf),
+            "hlvx 8 1",
+            "HLVX has width 2 or 4, not 8".to_owned(),
+        ),
+        (
+            guest(0xcf, 0xdf),
+            "hlvx 0 0",
+            "width 0 is none of 1, 2, 4 and 8".to_owned(),
+        ),
+        (
+            "hart 1 1 0\n".to_owned(),
+            "hlv 10 1 1",
+            "width 10 is none of 1, 2, 4 and 8".to_owned(),
+        ),
+        (
+            "hart 1 1 0\n".to_owned(),
+            "hlv 8 1 1",
+            "HLV is out of reach in VS".to_owned(),
+        ),
+        (
+            "hart 1 0 0\nreg 600 200000200\n".to_owned(),
+            "hlvx 4 0",
+            "HLVX is out of reach in VU".to_owned(),
+        ),
+        (
+            "hart 1 0 0\n".to_owned(),
+            "hsv 4 0 0",
+            "HSV is out of reach in VU".to_owned(),
+        ),
+        (
+            "hart 0 0 0\n".to_owned(),
+            "hsv 4 1 0",
+            "hstatus.HU is 0".to_owned(),
+        ),
+        (
+            "hart 0 0 0\nreg 600 200000200\n".to_owned(),
+            "hlv 4 1 1",
+            "the access: 1 is not a multiple of 4".to_owned(),
+        ),
+        (
+            "hart 0 0 2\n".to_owned(),
+            "hlv 3 1 1",
+            "pc 2 is not a multiple of 4".to_owned(),
+        ),
+        (
+            "image 1 0\nhart 1 0 0\n".to_owned(),
+            "hsv 3 1 1",
+            "the image's base 1 is not a multiple of 1000".to_owned(),
+        ),
+    ] {
+        assert_eq!(reason(&scene, event), why, "{scene}{event}");
+    }
+}
+
+#[test]
+fn a_hypervisor_load_is_drawn_before_its_trap() {
+    let script = guest(0xc9, 0xdf);
+    let drawn = written("--explain=tree", &format!("{script}hlv 1 1 40005008 0\n"));
+    let said = "\
+# HLV in HS at 1000: load page fault (d) goes to HS at 2000
+# load of 1 byte at 40005008 as VS, by SPVP; both stages are on
+# ├─ first stage, vsatp: virtual 40005008
+# │  └─ level 2: table guest physical 140004000, entry 1 at guest physical 140004008
+# │     ├─ second stage, hgatp: guest physical 140004008, the guest entry
+# │     │  └─ level 2: table 80000000, entry 5 at 80000028: VRWXU-AD, a leaf: the 1 GiB page at 80000000
+# │     └─ machine 80004008: V--X--AD, a leaf: the 1 GiB page at guest physical 140000000; a load needs R, or X with vsstatus.MXR or mstatus.MXR
+# └─ load page fault (d): value 40005008
+# to HS: medeleg hands it down
+# it wrote ";
+    assert!(drawn.contains(said), "{drawn}");
+}
+
 #[test]
 fn a_guest_entry_outside_the_image_stands_in_the_picture() {
     let script = "image 1000 4000\nhart 1 1 0\nreg 680 8000000000000004\nreg 280 8000000000000000\nput 4000 200000df\nstore 0 8\n";

@@ -60,7 +60,7 @@ fn events_are_answered() {
 }
 
 /// Every event that takes a word, without it.
-const WORDED: [&str; 10] = [
+const WORDED: [&str; 13] = [
     "read 340",
     "write 340 1",
     "set 340 1 1",
@@ -71,6 +71,9 @@ const WORDED: [&str; 10] = [
     "sfence.vma",
     "hfence.vvma",
     "hfence.gvma",
+    "hlv 8 1 0",
+    "hlvx 4 0",
+    "hsv 1 0 0",
 ];
 
 #[test]
@@ -98,6 +101,53 @@ fn a_trap_shows_the_word() {
         "ok\nok\nvalue 0\n",
         "an environment call has no word"
     );
+}
+
+/// A hart in HS over an image at 80000000, whose guest's stages are Bare, and eight bytes there.
+const GUEST: &str = "image 80000000 1000\nput 80000008 fedcba9876543210\nhart 0 1 1000\n";
+
+#[test]
+fn hypervisor_loads_and_stores_are_answered() {
+    let after = |lines: &str| answers(format!("{GUEST}{lines}").as_bytes());
+    assert_eq!(
+        after("hlv 1 1 8000000f 0\nhlv 1 0 8000000f 0\nhlv 2 1 8000000e 0\nhlv 4 0 8000000c 0\nhlv 8 0 80000008 0\n"),
+        "value fffffffffffffffe\nvalue fe\nvalue fffffffffffffedc\nvalue fedcba98\nvalue fedcba9876543210\n"
+    );
+    assert_eq!(
+        after("hlvx 2 8000000e 0\nhlvx 4 8000000c 0\nhlvx 8 80000008 0\nhlvx 1 80000008 0\n"),
+        "value fedc\nvalue fedcba98\nrefused 3\nrefused 3\n"
+    );
+    assert_eq!(
+        after(
+            "hsv 1 8000000f 123 0\nhsv 2 8000000a 4567 0\nhlv 8 1 80000008 0\nhsv 3 80000008 0 0\n"
+        ),
+        "ok\nok\nvalue 23dcba9845673210\nrefused 3\n"
+    );
+    assert_eq!(
+        after("hsv 4 80000008 0 0\nimage 80000000 1000\nhlv 4 1 80000008 0\nhlv 4 1 8000000c 0\n"),
+        "ok\nvalue 0\nvalue 0\n",
+        "a new image"
+    );
+    let page = "put 80000000 200000df\nreg 680 8000000000080000\n";
+    assert_eq!(
+        after(&format!("{page}hsv 1 9 55 0\nhlv 2 0 8 0\nhlv 8 1 40000000 0\n")),
+        "ok\nread 2 2 80000000 200000df\nvalue 5510\nread 2 2 80000000 200000df\nvalue 0\nread 2 2 80000008 fedcba9876545510\n"
+    );
+}
+
+#[test]
+fn a_store_into_an_image_from_a_file_leaves_the_file() {
+    let folder = Folder::new().expect("a folder is made");
+    let image = folder.path().join("image.bin");
+    std::fs::write(&image, [0x5a; 0x1000]).expect("the image is written");
+    let script = folder.path().join("script.replay");
+    let lines =
+        "file 0 image.bin\nhart 0 1 0\nhsv 8 8 7 0\nhlv 8 1 8 0\nfile 0 image.bin\nhlv 8 1 8 0\n";
+    std::fs::write(&script, lines).expect("the script is written");
+    let output = replay(&[script.to_str().expect("the path is text")], b"");
+    assert_eq!(output.stdout, b"ok\nvalue 7\nvalue 5a5a5a5a5a5a5a5a\n");
+    let bytes = std::fs::read(&image).expect("the image is read");
+    assert_eq!(bytes, [0x5a; 0x1000]);
 }
 
 #[test]
@@ -155,6 +205,11 @@ fn bad_lines_end_the_run() {
         "load 00000000000000000 8",
         "load +1 8",
         "set 300 0 2 0",
+        "hlv 8 2 0 0",
+        "hlv 8 0 0",
+        "hlvx 4 0 0 0",
+        "hsv 8 0 0",
+        "hlv.d 0 0",
         "ecall 73",
         "ebreak 100073",
         "trap 2 0 0 0 10",
@@ -233,6 +288,20 @@ fn a_bad_line_is_told_by_its_place_and_what_to_write() {
         (b"file 0\t #no-such-file", "9: `#no-such-file` can't be read: No such file or directory (os error 2); its path starts from the working directory"),
         (b"set 300 0 2 0", "11: WRITES is 0 or 1, not 2"),
         (b"wfi 100000000", "5: WORD is the instruction's 32 bits, at most ffffffff, not 100000000"),
+        (b"hlv 4 2 0 0", "7: SIGNED is 0 or 1, not 2"),
+        (b"hlv 4 01 0", "12: hlv takes WIDTH SIGNED ADDRESS WORD; WORD is missing: the instruction's 32 bits"),
+        (b"hlvx 4", "8: hlvx takes WIDTH ADDRESS WORD; ADDRESS is missing"),
+        (b"hsv 8 0 7 6eb54073 0", "20: hsv takes WIDTH ADDRESS VALUE WORD; `0` is too much"),
+        (b"hsv 8 0 7 100000000", "11: WORD is the instruction's 32 bits, at most ffffffff, not 100000000"),
+        (b"HLVX 4 0 0", "1: `HLVX` is no word of the language: words are lower case, `hlvx`"),
+        (b"hvl 8 1 0 0", "1: `hvl` is no word of the language: did you mean hlv?"),
+        (b"hlv.w 0", "1: `hlv.w` is no word of the language: the width is a number, `hlv 4 1 ADDRESS WORD`"),
+        (b"HLV.BU 0", "1: `HLV.BU` is no word of the language: the width is a number, `hlv 1 0 ADDRESS WORD`"),
+        (b"hlvx.hu 0", "1: `hlvx.hu` is no word of the language: the width is a number, `hlvx 2 ADDRESS WORD`"),
+        (b"hsv.d 0", "1: `hsv.d` is no word of the language: the width is a number, `hsv 8 ADDRESS VALUE WORD`"),
+        (b"load.w 0", "1: `load.w` is no word of the language: the width is a number, `load ADDRESS 4`"),
+        (b"read.d 0", "1: `read.d` is no word of the language: did you mean read?"),
+        (b"hlv.q 0", "1: `hlv.q` is no word of the language: did you mean hlv or hlvx?"),
         (b"clear 300 0 1 123456789abcdef0", "15: WORD is the instruction's 32 bits, at most ffffffff, not 123456789abcdef0"),
         (b"read 300 30002573 0", "19: read takes N WORD; `0` is too much"),
         (b"write 300", "11: write takes N VALUE WORD; VALUE is missing"),

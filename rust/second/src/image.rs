@@ -1,5 +1,7 @@
 //! The image: a base and a run of bytes, and refusal 1.
 
+use std::ops::Range;
+
 use crate::address::Machine;
 
 /// The largest image that the model takes: 67,108,864 bytes.
@@ -22,7 +24,7 @@ pub enum BadImage {
     End(u128),
 }
 
-/// An image: bytes from a machine address on. The model never writes it.
+/// An image: bytes from a machine address on. "From here the image is written by HSV alone."
 #[derive(Clone, PartialEq, Eq, Debug, Default)]
 pub struct Image {
     /// The machine address of the first byte.
@@ -62,31 +64,40 @@ impl Image {
         first >= base && first + u128::from(width) <= base + self.length()
     }
 
+    /// The places of `width` bytes from `address` on; none where they do not all lie in the image.
+    fn places(&self, address: Machine, width: u64) -> Option<Range<usize>> {
+        let start = usize::try_from(address.0.checked_sub(self.base)?).ok()?;
+        let end = start.checked_add(usize::try_from(width).ok()?)?;
+        (end <= self.bytes.len()).then_some(start..end)
+    }
+
     /// The eight bytes at `address`, little-endian; none where they do not all lie in the image.
     pub fn read(&self, address: Machine) -> Option<u64> {
-        let start = usize::try_from(address.0.checked_sub(self.base)?).ok()?;
-        let end = start.checked_add(8)?;
-        let bytes: [u8; 8] = self.bytes.get(start..end)?.try_into().ok()?;
-        Some(u64::from_le_bytes(bytes))
+        self.load(address, 8)
+    }
+
+    /// The `width` bytes at `address` (1 to 8), little-endian, the bits above them 0; none where they do not all lie in the image.
+    pub fn load(&self, address: Machine, width: u64) -> Option<u64> {
+        let mut number = [0; 8];
+        let loaded = self.bytes.get(self.places(address, width)?)?;
+        number.get_mut(..loaded.len())?.copy_from_slice(loaded);
+        Some(u64::from_le_bytes(number))
     }
 
     /// Puts eight bytes, little-endian, at `address` (a line of a script does that, no event). False, and nothing done, where
     /// they do not all lie in the image.
     pub fn put(&mut self, address: Machine, value: u64) -> bool {
-        let Some(offset) = address.0.checked_sub(self.base) else {
-            return false;
-        };
-        let Ok(start) = usize::try_from(offset) else {
-            return false;
-        };
-        let Some(end) = start.checked_add(8) else {
-            return false;
-        };
-        let Some(place) = self.bytes.get_mut(start..end) else {
-            return false;
-        };
-        place.copy_from_slice(&value.to_le_bytes());
-        true
+        self.store(address, 8, value).is_some()
+    }
+
+    /// Stores the low `width` bytes of `value` (1 to 8), little-endian, at `address`, and no others. None, and nothing done, where
+    /// they do not all lie in the image.
+    pub fn store(&mut self, address: Machine, width: u64, value: u64) -> Option<()> {
+        let places = self.places(address, width)?;
+        let number = value.to_le_bytes();
+        let stored = number.get(..places.len())?;
+        self.bytes.get_mut(places)?.copy_from_slice(stored);
+        Some(())
     }
 }
 
@@ -162,6 +173,38 @@ mod tests {
             assert_eq!(image.read(Machine(outside)), None, "{outside:x}");
             assert!(!image.put(Machine(outside), 1));
         }
+    }
+
+    #[test]
+    fn loads_and_stores_have_their_width() {
+        let mut image = image(0x1000, 0x1000);
+        let before = 0x1817_1615_1413_1211;
+        for (width, expected) in [
+            (1, 0x1817_1615_1413_1288),
+            (2, 0x1817_1615_1413_7788),
+            (4, 0x1817_1615_5566_7788),
+            (8, 0x1122_3344_5566_7788),
+        ] {
+            image.put(Machine(0x1008), before);
+            let stored = image.store(Machine(0x1008), width, 0x1122_3344_5566_7788);
+            assert_eq!(stored, Some(()));
+            assert_eq!(image.read(Machine(0x1000)), Some(0));
+            assert_eq!(image.read(Machine(0x1008)), Some(expected));
+            assert_eq!(image.read(Machine(0x1010)), Some(0));
+            let low = 0x1122_3344_5566_7788 & crate::bits::low_ones(8 * width as u32);
+            assert_eq!(image.load(Machine(0x1008), width), Some(low));
+            let last = 0x2000 - width;
+            assert_eq!(image.load(Machine(last), width), Some(0));
+            for outside in [last + 1, 0x2000, 0x1000 - 1, 0, u64::MAX] {
+                assert_eq!(image.load(Machine(outside), width), None);
+                let unchanged = image.clone();
+                assert_eq!(image.store(Machine(outside), width, u64::MAX), None);
+                assert_eq!(image, unchanged);
+            }
+        }
+        assert_eq!(image.load(Machine(0x1000), 9), None);
+        assert_eq!(image.store(Machine(0x1000), 9, 0), None);
+        assert_eq!(image.load(Machine(0x1000), u64::MAX), None);
     }
 
     #[test]

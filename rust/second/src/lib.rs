@@ -1,4 +1,4 @@
-//! The independent second program: the model of document 01 with change requests 2026-01 and 2026-02 written a second time, from
+//! The independent second program: the model of document 01 with change requests 2026-01 to 2026-03 written a second time, from
 //! the papers alone, so that the two programs can be compared byte by byte.
 //!
 //! One module for each subject, in the paper's order:
@@ -17,12 +17,14 @@
 //! | [`waits`] | WFI and the fences |
 //! | [`image`] | the image and refusal 1 |
 //! | [`walk`] | "The walk": translation of a fetch, load or store, refusal 3 |
+//! | [`hypervisor`] | request 2026-03: the hypervisor loads and stores |
 //! | [`reasons`] | what each rule that refused, trapped, faulted or took an interrupt is called in words |
 //! | [`word`] | which instruction an event's word is, in words, and whether it fits the event |
 //! | [`lines`] | the lines of a script, and the longest one |
 //! | [`script`] | the replay script language |
 //!
-//! Every event is a function from a hart (and what else it is given) to a hart and an answer; nothing is kept between events.
+//! Every event is a function from a hart (and what else it is given) to a hart and an answer; nothing is kept between events. One
+//! of them, HSV, writes the image that it is lent.
 //! No input makes any of them panic: sums that can pass 2^64 are made in 128 bits, the program counter wraps by its rule, and
 //! the list of reads is filled by a bounded push.
 
@@ -34,6 +36,7 @@ pub mod address;
 pub mod bits;
 pub mod calls;
 pub mod hart;
+pub mod hypervisor;
 pub mod image;
 pub mod interrupts;
 pub mod lines;

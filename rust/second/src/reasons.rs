@@ -1,6 +1,6 @@
-//! Reasons in words: why an event was refused, why a translation ended with a fault, why an access to a register, a return, WFI
-//! or a fence trapped, and why an interrupt was taken or none was due. The rules themselves stand in the other modules; here is
-//! only what they are called.
+//! Reasons in words: why an event was refused, why a translation or a hypervisor load or store ended with a fault, why an access
+//! to a register, a return, WFI, a fence or a hypervisor load or store trapped with cause 2 or 22, and why an interrupt was taken
+//! or none was due. The rules themselves stand in the other modules; here is only what they are called.
 
 use std::fmt::{Display, Formatter, Result};
 
@@ -19,7 +19,7 @@ pub enum Reason {
     Refused(Refusal),
     /// A trap with cause 2 or 22.
     Forbidden(Forbidden),
-    /// The fault of a translation.
+    /// The fault of a translation, or of a hypervisor load or store.
     Fault(Why),
     /// What came of an interrupt.
     Interrupt(interrupts::Why),
@@ -144,6 +144,7 @@ impl Display for BadAccess {
                 text,
                 "a fetch's address is a multiple of 4; {address:x} is not"
             ),
+            BadAccess::HlvxWidth(width) => write!(text, "HLVX has width 2 or 4, not {width:x}"),
         }
     }
 }
@@ -197,6 +198,7 @@ impl Display for Forbidden {
             ),
             Forbidden::Instruction(name, mode) => write!(text, "{name} is out of reach in {mode}"),
             Forbidden::Bit(control) => write!(text, "{} is 1", bit_name(*control)),
+            Forbidden::HuClear => text.write_str("hstatus.HU is 0"),
         }
     }
 }
@@ -345,6 +347,7 @@ impl Why {
             Rule::NotReadable => self.right_of_load(),
             Rule::NotWritable => "a store needs W",
             Rule::NotExecutable => "a fetch needs X",
+            Rule::NotExecutableForHlvx => "HLVX needs X",
         };
         text.write_str(words)
     }

@@ -276,6 +276,19 @@ fn an_access_is_refused() {
             "fetch fffffffffffffffe 4",
             "a fetch's address is a multiple of 4; fffffffffffffffe is not",
         ),
+        ("hlv 3 0 0 0", "width 3 is none of 1, 2, 4 and 8"),
+        ("hlvx 10 0 0", "width 10 is none of 1, 2, 4 and 8"),
+        ("hsv 0 0 0 0", "width 0 is none of 1, 2, 4 and 8"),
+        ("hlvx 1 0 0", "HLVX has width 2 or 4, not 1"),
+        ("hart 1 1 0;hlvx 8 3 0", "HLVX has width 2 or 4, not 8"),
+        (
+            "hart 0 3 2;image 1 1;hlvx 8 3 0",
+            "pc 2 is not a multiple of 4",
+        ),
+        (
+            "hart 1 0 0;image 801 fff;hsv 3 0 0 0",
+            "the image's base 801 is not a multiple of 1000",
+        ),
     ]);
 }
 
@@ -377,7 +390,96 @@ fn an_instruction_traps() {
     check(&[
         ("hart 1 0 0;wfi 0", "WFI is out of reach in VU"),
         ("hart 1 1 0;reg 600 200200000;wfi 0", "hstatus.VTW is 1"),
+        ("hart 1 0 0;hlv 1 0 0 0", "HLV is out of reach in VU"),
+        ("hart 1 1 0;hlv 8 1 3 0", "HLV is out of reach in VS"),
+        ("hart 1 0 0;hlvx 4 0 0", "HLVX is out of reach in VU"),
+        (
+            "hart 1 1 0;reg 600 200000200;hlvx 2 0 0",
+            "HLVX is out of reach in VS",
+        ),
+        ("hart 1 0 0;hsv 2 1 0 0", "HSV is out of reach in VU"),
+        ("hart 1 1 0;hsv 4 0 0 0", "HSV is out of reach in VS"),
+        ("hart 0 0 0;hlv 1 0 0 0", "hstatus.HU is 0"),
+        ("hart 0 0 0;hlvx 4 3 0", "hstatus.HU is 0"),
+        (
+            "hart 0 0 0;reg 600 200000100;hsv 8 0 0 0",
+            "hstatus.HU is 0",
+        ),
     ]);
+}
+
+/// A hypervisor load or store: the parts of V=1, the rights in its own words, and none where it is done.
+#[test]
+fn a_hypervisor_access_faults() {
+    let first = format!("hart 0 1 0;reg 280 {ROOT}");
+    let second = format!("hart 0 3 0;reg 680 {ROOT}");
+    let both = format!("hart 0 1 0;reg 280 8000000000000000;reg 680 {ROOT}");
+    for (hart, entry, access, expected) in [
+        (&first, "200000df", "hlv 8 1 1001 0", "the access: 1001 is not a multiple of 8"),
+        (&first, "200000df", "hsv 2 3 0 0", "the access: 3 is not a multiple of 2"),
+        (
+            &first,
+            "200000df",
+            "hlvx 4 4000 0",
+            "the access: 80004000 is outside the image: page 80004000 is missing",
+        ),
+        (
+            &first,
+            "0",
+            "hlv 1 0 4000000000 0",
+            "first stage (vsatp): bits 63:39 of 4000000000 are not all equal to bit 38",
+        ),
+        (&first, "0", "hlv 1 0 0 0", "first stage (vsatp), level 2: V is 0"),
+        (&first, "200000cf", "hlv 1 0 0 0", "first stage (vsatp), level 2: user mode needs U"),
+        (
+            &first,
+            "20000059",
+            "hlv 1 1 0 0",
+            "first stage (vsatp), level 2: a load needs R, or X with vsstatus.MXR or mstatus.MXR",
+        ),
+        (&first, "200000d7", "hlvx 2 0 0", "first stage (vsatp), level 2: HLVX needs X"),
+        (&first, "20000053", "hsv 1 0 0 0", "first stage (vsatp), level 2: a store needs D"),
+        (&first, "200000d3", "hsv 1 0 0 0", "first stage (vsatp), level 2: a store needs W"),
+        (
+            &first,
+            "10000001",
+            "hsv 8 8 0 0",
+            "first stage (vsatp), level 1: the entry at 40000000 is outside the image: page 40000000 is missing",
+        ),
+        (
+            &second,
+            "0",
+            "hlv 1 0 20000000000 0",
+            "second stage for the access at 20000000000: bits 63:41 of 20000000000 are not all 0",
+        ),
+        (
+            &second,
+            "20000059",
+            "hlv 1 0 7 0",
+            "second stage for the access at 7, level 2: a load needs R, or X with mstatus.MXR",
+        ),
+        (&second, "200000d7", "hlvx 4 8 0", "second stage for the access at 8, level 2: HLVX needs X"),
+        (&second, "200000cf", "hlvx 4 8 0", "second stage for the access at 8, level 2: the second stage needs U"),
+        (&second, "200000d3", "hsv 4 8 0 0", "second stage for the access at 8, level 2: a store needs W"),
+        (
+            &both,
+            "20000059",
+            "hlvx 4 10 0",
+            "second stage for the guest entry at 0, level 2: a read of a guest entry needs R",
+        ),
+        (&both, "0", "hsv 4 10 0 0", "second stage for the guest entry at 0, level 2: V is 0"),
+        (&first, "200000df", "hlv 8 0 1000 0", "none"),
+        (&second, "200000df", "hlvx 4 1000 0", "none"),
+        (&second, "200000df", "hsv 4 1000 0 0", "none"),
+    ] {
+        let tables = format!("put 80000000 {entry}");
+        assert_eq!(walked(hart, &tables, access), expected, "{access} {entry}");
+    }
+    let supervisor = format!("{first};reg 600 200000100");
+    assert_eq!(
+        walked(&supervisor, "put 80000000 200000df", "hlvx 4 0 0"),
+        "first stage (vsatp), level 2: supervisor mode needs vsstatus.SUM on a U page"
+    );
 }
 
 /// An image at 80000000 of four pages, in which each entry of `tables` is put.

@@ -11,6 +11,7 @@ use crate::access::{access, Accessed, Action};
 use crate::address::Machine;
 use crate::calls::{ebreak, ecall};
 use crate::hart::Hart;
+use crate::hypervisor::{reach, GuestAccess, Operation, Reached};
 use crate::image::Image;
 use crate::interrupts::interrupt;
 use crate::lines::Lines;
@@ -18,7 +19,7 @@ use crate::reasons::Reason;
 use crate::returns::{mret, sret};
 use crate::trap::{request, Ending, Outcome, Trap};
 use crate::waits::{hfence_gvma, hfence_vvma, sfence_vma, wfi};
-use crate::walk::{self, translate, Access, Kind, Translation};
+use crate::walk::{self, translate, Access, Kind, List, Translation};
 use crate::word::Explanation;
 
 /// The largest image that this program holds: 1 GiB.
@@ -107,15 +108,24 @@ pub enum Line {
     },
     /// `interrupt`
     Interrupt,
+    /// `hlv`, `hlvx` or `hsv`
+    Guest {
+        /// The hypervisor load or store.
+        access: GuestAccess,
+        /// Its word.
+        word: u32,
+    },
     /// `show`
     Show,
 }
 
 impl Line {
-    /// "Each such event gains the word": that of a register access, a return, WFI or a fence.
+    /// "Each such event gains the word": that of a register access, a return, WFI or a fence, and of a hypervisor load or store.
     pub fn word(&self) -> Option<u32> {
         match self {
-            Line::Register { word, .. } | Line::Instruction { word, .. } => Some(*word),
+            Line::Register { word, .. }
+            | Line::Instruction { word, .. }
+            | Line::Guest { word, .. } => Some(*word),
             _ => None,
         }
     }
@@ -132,6 +142,8 @@ pub enum Answer {
     Register(Accessed),
     /// A trap request, an instruction or an interrupt.
     Event(Outcome),
+    /// A hypervisor load or store.
+    Guest(Box<Reached>),
     /// `show`
     Hart(Hart),
 }
@@ -147,6 +159,7 @@ impl Answer {
             }
             Answer::Register(accessed) => accessed.outcome.reason,
             Answer::Event(outcome) => outcome.reason,
+            Answer::Guest(reached) => reached.outcome.reason,
         }
     }
 }
@@ -232,7 +245,7 @@ fn numbers<const N: usize>(mut rest: &[u8]) -> Result<[u64; N], Bad> {
     Ok(found)
 }
 
-/// WRITES or FLAG: 0 or 1.
+/// WRITES, FLAG or SIGNED: 0 or 1.
 fn flag(number: u64, name: &str) -> Result<bool, Bad> {
     match number {
         0 => Ok(false),
@@ -302,6 +315,19 @@ pub fn parse(line: &[u8]) -> Result<Option<Line>, Bad> {
         b"hfence.vvma" => parse_instruction(Instruction::HfenceVvma, rest)?,
         b"hfence.gvma" => parse_instruction(Instruction::HfenceGvma, rest)?,
         b"interrupt" => alone(Line::Interrupt, rest)?,
+        b"hlv" => {
+            let [width, signed, address, word] = numbers(rest)?;
+            let signed = flag(signed, "SIGNED")?;
+            guest_line(Operation::Load { signed }, width, address, word)?
+        }
+        b"hlvx" => {
+            let [width, address, word] = numbers(rest)?;
+            guest_line(Operation::LoadExecutable, width, address, word)?
+        }
+        b"hsv" => {
+            let [width, address, value, word] = numbers(rest)?;
+            guest_line(Operation::Store { value }, width, address, word)?
+        }
         b"show" => alone(Line::Show, rest)?,
         _ => return Err(Bad(format!("the word {} is unknown", shown(word)))),
     };
@@ -346,6 +372,17 @@ fn parse_instruction(instruction: Instruction, rest: &[u8]) -> Result<Line, Bad>
     let [word] = numbers(rest)?;
     let word = instruction_word(word)?;
     Ok(Line::Instruction { instruction, word })
+}
+
+/// The line of a hypervisor load or store with this WORD.
+fn guest_line(operation: Operation, width: u64, address: u64, word: u64) -> Result<Line, Bad> {
+    let access = GuestAccess {
+        operation,
+        address,
+        width,
+    };
+    let word = instruction_word(word)?;
+    Ok(Line::Guest { access, word })
 }
 
 /// A line that is its word alone.
@@ -433,6 +470,11 @@ impl Session {
                 Ok(self.hand_on(outcome))
             }
             Line::Interrupt => Ok(self.hand_on(interrupt(&self.hart))),
+            Line::Guest { access, word } => {
+                let reached = reach(&self.hart, &mut self.image, access, *word);
+                self.hart = reached.outcome.hart;
+                Ok(Answer::Guest(Box::new(reached)))
+            }
             Line::Show => Ok(Answer::Hart(self.hart)),
         }
     }
@@ -541,6 +583,7 @@ fn write_answer<W: Write>(output: &mut W, answer: &Answer) -> io::Result<()> {
             Ending::Refused(number) => writeln!(output, "refused {number:x}"),
             Ending::Trapped(..) | Ending::Done => writeln!(output, "ok"),
         },
+        Answer::Guest(reached) => write_reached(output, reached),
         Answer::Hart(hart) => write_hart(output, hart),
     }
 }
@@ -571,7 +614,22 @@ fn write_translation<W: Write>(output: &mut W, translation: &Translation) -> io:
             u8::from(trap.flag)
         )?,
     }
-    for read in translation.list.items() {
+    write_list(output, &translation.list)
+}
+
+/// The answer of a hypervisor load or store and its list.
+fn write_reached<W: Write>(output: &mut W, reached: &Reached) -> io::Result<()> {
+    match (reached.outcome.ending, reached.value) {
+        (Ending::Refused(number), _) => writeln!(output, "refused {number:x}")?,
+        (Ending::Trapped(..) | Ending::Done, Some(value)) => writeln!(output, "value {value:x}")?,
+        (Ending::Trapped(..) | Ending::Done, None) => writeln!(output, "ok")?,
+    }
+    write_list(output, &reached.list)
+}
+
+/// One line for each item of a list.
+fn write_list<W: Write>(output: &mut W, list: &List) -> io::Result<()> {
+    for read in list.items() {
         writeln!(
             output,
             "read {:x} {:x} {:x} {:x}",

@@ -169,6 +169,22 @@ fn bad_lines() {
         b"interrupt 0",
         b"interrupts",
         b"Interrupt",
+        b"hlv",
+        b"hlv 1 0 0",
+        b"hlv 1 0 0 0 0",
+        b"hlv 1 2 0 0",
+        b"hlv 1 ffffffffffffffff 0 0",
+        b"hlv 1 10 0 0",
+        b"hlv 1 0 0 100000000",
+        b"HLV 1 0 0 0",
+        b"hlv.b 1 0 0 0",
+        b"hlvx 2 0",
+        b"hlvx 2 0 0 0",
+        b"hlvx 2 0 100000000",
+        b"hsv 1 0 0",
+        b"hsv 1 0 0 0 0",
+        b"hsv 1 0 0 100000000",
+        b"hsvx 1 0 0 0",
         b"show 0",
         b"image 0",
         b"image 0 0 0",
@@ -215,6 +231,10 @@ fn bad_lines() {
 fn flags_are_numbers() {
     assert_eq!(good("set 340 1 01 0\nread 340 0"), "value 0\nvalue 1\n");
     assert_eq!(good("set 340 1 0000 0\nread 340 0"), "value 0\nvalue 0\n");
+    assert_eq!(
+        good("image 0 1000\nput 0 80\nhlv 1 01 0 0\nhlv 1 0000 0 0"),
+        "value ffffffffffffff80\nvalue 80\n"
+    );
 }
 
 #[test]
@@ -321,7 +341,7 @@ fn answers() {
 }
 
 /// A line of each event that has a WORD, without it.
-pub const WITH_WORD: [&str; 12] = [
+pub const WITH_WORD: [&str; 15] = [
     "read 300",
     "write 300 0",
     "set 300 0 0",
@@ -334,6 +354,9 @@ pub const WITH_WORD: [&str; 12] = [
     "sfence.vma",
     "hfence.vvma",
     "hfence.gvma",
+    "hlv 2 1 8",
+    "hlvx 8 8",
+    "hsv 4 8 5",
 ];
 
 #[test]
@@ -399,7 +422,8 @@ fn the_word_of_a_line_that_traps_is_in_tval() {
     ];
     // A hart, lines that trap in it, and to how many of these they can go: cause 2 in U, 22 in VU, 2 in VS.
     for (hart, lines, count) in [
-        ("hart 0 0 0\n", &WITH_WORD[..], 2),
+        ("hart 0 0 0\n", &WITH_WORD[..13], 2),
+        ("hart 0 0 0\n", &["hlvx 2 1", "hlvx 4 8", "hsv 4 8 5"], 2),
         (
             "hart 1 0 0\n",
             &[
@@ -412,7 +436,15 @@ fn the_word_of_a_line_that_traps_is_in_tval() {
                 "sfence.vma",
                 "hfence.vvma",
                 "hfence.gvma",
+                "hlv 8 0 0",
+                "hlvx 2 0",
+                "hsv 1 0 0",
             ],
+            2,
+        ),
+        (
+            "hart 1 1 0\nreg 600 200000300\n",
+            &["hlv 8 0 3", "hlvx 2 0", "hsv 1 0 0"],
             2,
         ),
         (
@@ -459,6 +491,63 @@ fn an_interrupt_answers_ok_or_refused_2() {
         good("hart 0 3 2\ninterrupt\nshow"),
         format!("refused 2\n{refused}")
     );
+}
+
+/// The answers of hypervisor loads and stores, with their lists, and the image that a store leaves to the next event.
+#[test]
+fn hypervisor_loads_and_stores_answer() {
+    let scene = "image 80000000 1000\nput 80000000 200000df\nput 80000100 8899aabbccddeeff\n\
+        hart 0 1 40\nreg 305 3000\nreg 280 8000000000080000\n";
+    let listed = "read 1 2 80000000 200000df\n";
+    for (line, answer) in [
+        ("hlv 1 1 100 0", "value ffffffffffffffff"),
+        ("hlv 1 0 101 0", "value ee"),
+        ("hlv 2 1 102 0", "value ffffffffffffccdd"),
+        ("hlv 4 0 104 0", "value 8899aabb"),
+        ("hlv 8 1 100 0", "value 8899aabbccddeeff"),
+        ("hlvx 2 106 0", "value 8899"),
+        ("hlvx 4 100 0", "value ccddeeff"),
+        ("hsv 4 100 123456789 0", "ok"),
+    ] {
+        assert_eq!(
+            good(&format!("{scene}{line}\nread 141 0")),
+            format!("{answer}\n{listed}value 0\n"),
+            "{line}"
+        );
+    }
+    // Trapped: 0 or ok, and the list as far as it came; misaligned or refused: none.
+    for (line, answer) in [
+        ("hlv 8 0 1000 0", format!("value 0\n{listed}")),
+        ("hlvx 4 1000 0", format!("value 0\n{listed}")),
+        ("hsv 8 1000 1 0", format!("ok\n{listed}")),
+        ("hlv 8 0 101 0", "value 0\n".to_string()),
+        ("hsv 4 102 1 0", "ok\n".to_string()),
+        ("hlv 3 0 100 0", "refused 3\n".to_string()),
+        ("hlvx 8 100 0", "refused 3\n".to_string()),
+        ("hsv 10 100 1 0", "refused 3\n".to_string()),
+    ] {
+        let output = good(&format!(
+            "{scene}{line}\nhart 0 1 0\nreg 280 8000000000080000\nhlv 8 0 100 0"
+        ));
+        let after = format!("value 8899aabbccddeeff\n{listed}");
+        assert_eq!(output, format!("{answer}{after}"), "{line}");
+    }
+    // What is stored stays for every later event, until a new image.
+    assert_eq!(
+        good(&format!("{scene}hsv 2 102 ffff5555 0\nhlv 8 0 100 0\nhsv 1 0 de 0\nhlv 1 0 100 0")),
+        format!(
+            "ok\n{listed}value 8899aabb5555eeff\n{listed}ok\n{listed}value 0\nread 1 2 80000000 200000de\n"
+        )
+    );
+    assert_eq!(
+        good("image 0 1000\nhsv 8 0 5 0\nhlv 8 0 0 0\nimage 0 1000\nhlv 8 0 0 0"),
+        "ok\nvalue 5\nvalue 0\n"
+    );
+    assert_eq!(
+        good("hart 0 3 2\nhsv 3 0 0 0\nimage 1 1\nhlv 1 1 0 0"),
+        "refused 2\nrefused 2\n"
+    );
+    assert_eq!(good("image 1 1\nhsv 3 0 0 0"), "refused 1\n");
 }
 
 #[test]

@@ -62,7 +62,7 @@ pub enum Refusal {
     Image(BadImage),
     /// 2: the hart.
     Hart(BadHart),
-    /// 3: the access of a translation.
+    /// 3: the access of a translation, or of a hypervisor load or store.
     Access(BadAccess),
     /// 4: "a trap request that can't arise".
     Request(BadRequest),
@@ -83,7 +83,7 @@ impl Refusal {
     }
 }
 
-/// A rule by which an access to a register, a return, WFI or a fence traps.
+/// A rule by which an access to a register, a return, WFI, a fence or a hypervisor load or store traps with cause 2 or 22.
 #[derive(Clone, Copy, PartialEq, Eq, Debug)]
 pub enum Forbidden {
     /// No register has this number.
@@ -96,6 +96,8 @@ pub enum Forbidden {
     Instruction(&'static str, Mode),
     /// A bit that makes what the mode reaches trap.
     Bit(Control),
+    /// A hypervisor load or store in U with hstatus.HU clear.
+    HuClear,
 }
 
 /// The bits that make what a mode reaches trap.
@@ -149,7 +151,7 @@ pub struct Outcome {
     pub hart: Hart,
     /// How the event ended.
     pub ending: Ending,
-    /// Why it was refused, or trapped by a rule, or what came of an interrupt.
+    /// Why it was refused, or trapped by a rule or with a fault, or what came of an interrupt.
     pub reason: Option<Reason>,
 }
 
@@ -178,7 +180,8 @@ pub fn trapped(hart: &Hart, mode: Mode, trap: Trap) -> Outcome {
 }
 
 /// An event that traps with cause 2 or 22 by a rule, and its instruction word (change request 2026-02): "Causes 2 and 22 raised
-/// by a register access, return, WFI or fence carry the 32-bit instruction word as the value." The word goes nowhere else.
+/// by a register access, return, WFI or fence carry the 32-bit instruction word as the value." Those of a hypervisor load or store
+/// do too (2026-03): "both carry the word". The word goes nowhere else.
 pub fn forbidden(hart: &Hart, mode: Mode, raised: Raised, word: u32) -> Outcome {
     let trap = Trap {
         value: u64::from(word),

@@ -92,6 +92,8 @@ pub enum BadAccess {
     FetchWidth(u64),
     /// The address of a fetch isn't a multiple of 4.
     FetchAddress(u64),
+    /// The width of HLVX is 1 or 8.
+    HlvxWidth(u64),
 }
 
 /// One item of the list of reads.
@@ -186,6 +188,8 @@ pub enum Rule {
     NotWritable,
     /// "fetches X".
     NotExecutable,
+    /// "HLVX needs X in place of R at both stages".
+    NotExecutableForHlvx,
     /// "At the end the whole access must lie in the image".
     AccessOutside,
 }
@@ -258,22 +262,53 @@ pub fn translate(hart: &Hart, image: &Image, access: &Access) -> Translation {
     if let Some(bad) = access.refusal() {
         return refused(Refusal::Access(bad));
     }
-    let mut walk = Walk {
-        hart,
-        image,
-        access,
+    let manner = Manner {
         mode: effective_mode(hart, mode, access.kind),
-        list: List::default(),
+        needs_x: false,
     };
-    let end = walk.whole();
+    let Walked { end, list } = walk(hart, image, access, manner);
     Translation {
         answer: match &end {
             Ok(address) => Answer::Address(*address),
             Err(fault) => Answer::Fault(fault.trap),
         },
-        list: walk.list,
+        list,
         why: end.err().map(|fault| fault.why),
         refusal: None,
+    }
+}
+
+/// How an access is made.
+#[derive(Clone, Copy, PartialEq, Eq, Debug)]
+pub struct Manner {
+    /// The effective mode.
+    pub mode: Mode,
+    /// "HLVX needs X in place of R at both stages and faults as a load": whether it is this load.
+    pub needs_x: bool,
+}
+
+/// What a walk gives: the machine address or the fault, and the list of reads.
+#[derive(Clone, Copy, PartialEq, Eq, Debug)]
+pub struct Walked {
+    /// How it ended.
+    pub end: Result<Machine, Fault>,
+    /// The list of reads.
+    pub list: List,
+}
+
+/// The walk of an access that is not refused.
+pub fn walk(hart: &Hart, image: &Image, access: &Access, manner: Manner) -> Walked {
+    let mut walk = Walk {
+        hart,
+        image,
+        access,
+        mode: manner.mode,
+        needs_x: manner.needs_x,
+        list: List::default(),
+    };
+    Walked {
+        end: walk.whole(),
+        list: walk.list,
     }
 }
 
@@ -481,9 +516,11 @@ impl Stage {
 
 /// "Any fault, of either stage, ends the walk and is its answer."
 #[derive(Clone, Copy, PartialEq, Eq, Debug)]
-struct Fault {
-    trap: Trap,
-    why: Why,
+pub struct Fault {
+    /// The five numbers of the fault.
+    pub trap: Trap,
+    /// The rule that held.
+    pub why: Why,
 }
 
 /// One walk. "It is fed the hart, the image and the access"; "It holds the list so far".
@@ -493,6 +530,8 @@ struct Walk<'a> {
     access: &'a Access,
     /// The effective mode.
     mode: Mode,
+    /// Whether it is HLVX.
+    needs_x: bool,
     list: List,
 }
 
@@ -679,9 +718,20 @@ impl Walk<'_> {
         if let Entry::Leaf { .. } = decoded {
             accessed_and_dirty(entry, self.access.kind == Kind::Store)?;
             self.first_stage_user(entry)?;
-            right_of_kind(entry, self.access.kind, self.first_stage_mxr())?;
+            self.right_of_access(entry, self.first_stage_mxr())?;
         }
         Ok(decoded)
+    }
+
+    /// The right that the access itself needs: that of its kind, but "HLVX needs X in place of R at both stages", whatever MXR is.
+    fn right_of_access(&self, entry: u64, mxr: bool) -> Result<(), Rule> {
+        if !self.needs_x {
+            return right_of_kind(entry, self.access.kind, mxr);
+        }
+        if !bit(entry, PTE_X) {
+            return Err(Rule::NotExecutableForHlvx);
+        }
+        Ok(())
     }
 
     /// "user mode needs U=1; supervisor on a U=1 page may not fetch, and needs SUM for data."
@@ -757,15 +807,15 @@ impl Walk<'_> {
     fn second_stage_entry(&self, entry: u64, level: u64, purpose: Purpose) -> Result<Entry, Rule> {
         let decoded = decode(entry, level)?;
         if let Entry::Leaf { .. } = decoded {
-            let (kind, mxr) = match purpose {
-                Purpose::GuestEntry => (Kind::Load, false),
-                Purpose::Access => (self.access.kind, bit(self.hart.mstatus, MXR)),
-            };
-            accessed_and_dirty(entry, kind == Kind::Store)?;
+            let is_store = purpose == Purpose::Access && self.access.kind == Kind::Store;
+            accessed_and_dirty(entry, is_store)?;
             if !bit(entry, PTE_U) {
                 return Err(Rule::NotUser);
             }
-            right_of_kind(entry, kind, mxr)?;
+            match purpose {
+                Purpose::GuestEntry => right_of_kind(entry, Kind::Load, false)?,
+                Purpose::Access => self.right_of_access(entry, bit(self.hart.mstatus, MXR))?,
+            }
         }
         Ok(decoded)
     }

@@ -1,10 +1,11 @@
-//! What the word of an event is (change request 2026-02), for people: "The keeper's recorder leaves odd instructions, and a zero
+//! What the word of an event is (change requests 2026-02 and 2026-03), for people: "The keeper's recorder leaves odd instructions, and a zero
 //! tells us nothing." The model itself does not decode it.
 
 use std::fmt::{Display, Formatter, Result};
 
 use crate::access::Action;
 use crate::bits::field;
+use crate::hypervisor::{GuestAccess, Operation as GuestOperation};
 use crate::registers::find;
 use crate::script::{Instruction, Line};
 
@@ -25,6 +26,30 @@ const FENCES: [(u64, Instruction); 3] = [
     (0x09, Instruction::SfenceVma),
     (0x11, Instruction::HfenceVvma),
     (0x31, Instruction::HfenceGvma),
+];
+
+/// Bits 14:12 of the hypervisor loads and stores.
+const GUEST: u64 = 4;
+
+/// The hypervisor loads, by bits 31:25 and 24:20: the name, how they load, and the width.
+const LOADS: [(u64, u64, &str, Loading, u64); 9] = [
+    (0x30, 0, "HLV.B", Loading::Signed, 1),
+    (0x30, 1, "HLV.BU", Loading::Unsigned, 1),
+    (0x32, 0, "HLV.H", Loading::Signed, 2),
+    (0x32, 1, "HLV.HU", Loading::Unsigned, 2),
+    (0x32, 3, "HLVX.HU", Loading::Executable, 2),
+    (0x34, 0, "HLV.W", Loading::Signed, 4),
+    (0x34, 1, "HLV.WU", Loading::Unsigned, 4),
+    (0x34, 3, "HLVX.WU", Loading::Executable, 4),
+    (0x36, 0, "HLV.D", Loading::Signed, 8),
+];
+
+/// The hypervisor stores, by bits 31:25: the name and the width.
+const STORES: [(u64, &str, u64); 4] = [
+    (0x31, "HSV.B", 1),
+    (0x33, "HSV.H", 2),
+    (0x35, "HSV.W", 4),
+    (0x37, "HSV.D", 8),
 ];
 
 /// The register accesses, by bits 14:12: what they do, and whether S is itself the number.
@@ -50,6 +75,10 @@ pub enum Decoded {
     Fence(Fence),
     /// A register access.
     Access(Access),
+    /// A hypervisor load.
+    Load(Load),
+    /// A hypervisor store.
+    Store(Store),
     /// Another SYSTEM instruction.
     OtherSystem,
     /// No SYSTEM instruction.
@@ -93,6 +122,45 @@ pub enum Operation {
     Clear,
 }
 
+/// A hypervisor load.
+#[derive(Clone, Copy, PartialEq, Eq, Debug)]
+pub struct Load {
+    /// Its name.
+    pub name: &'static str,
+    /// How it loads.
+    pub loading: Loading,
+    /// The number of bytes.
+    pub width: u64,
+    /// S, the register that has the address.
+    pub address: u64,
+    /// D, the register that takes what is loaded.
+    pub destination: u64,
+}
+
+/// How a hypervisor load loads.
+#[derive(Clone, Copy, PartialEq, Eq, Debug)]
+pub enum Loading {
+    /// HLV, sign-extended.
+    Signed,
+    /// HLV, zero-extended.
+    Unsigned,
+    /// HLVX.
+    Executable,
+}
+
+/// A hypervisor store.
+#[derive(Clone, Copy, PartialEq, Eq, Debug)]
+pub struct Store {
+    /// Its name.
+    pub name: &'static str,
+    /// The number of bytes.
+    pub width: u64,
+    /// S, the register that has the address.
+    pub address: u64,
+    /// T, the register that is stored.
+    pub source: u64,
+}
+
 /// The instruction that a word is.
 pub fn decode(word: u32) -> Decoded {
     let word = u64::from(word);
@@ -101,6 +169,8 @@ pub fn decode(word: u32) -> Decoded {
     }
     whole_word(word)
         .or_else(|| fence(word))
+        .or_else(|| guest_load(word))
+        .or_else(|| guest_store(word))
         .or_else(|| access(word))
         .unwrap_or(Decoded::OtherSystem)
 }
@@ -122,6 +192,38 @@ fn fence(word: u64) -> Option<Decoded> {
         fence,
         address: field(word, 15, 5),
         space: field(word, 20, 5),
+    }))
+}
+
+/// A hypervisor load.
+fn guest_load(word: u64) -> Option<Decoded> {
+    if field(word, 12, 3) != GUEST {
+        return None;
+    }
+    let functions = (field(word, 25, 7), field(word, 20, 5));
+    let mut loads = LOADS.into_iter();
+    let (_, _, name, loading, width) = loads.find(|load| (load.0, load.1) == functions)?;
+    Some(Decoded::Load(Load {
+        name,
+        loading,
+        width,
+        address: field(word, 15, 5),
+        destination: field(word, 7, 5),
+    }))
+}
+
+/// A hypervisor store: bits 11:7 are 0.
+fn guest_store(word: u64) -> Option<Decoded> {
+    if field(word, 12, 3) != GUEST || field(word, 7, 5) != 0 {
+        return None;
+    }
+    let mut stores = STORES.into_iter();
+    let (_, name, width) = stores.find(|store| store.0 == field(word, 25, 7))?;
+    Some(Decoded::Store(Store {
+        name,
+        width,
+        address: field(word, 15, 5),
+        source: field(word, 20, 5),
     }))
 }
 
@@ -152,8 +254,41 @@ impl Decoded {
             (Decoded::Access(this), Line::Register { number, action, .. }) => {
                 this.number == *number && this.fits(*action)
             }
+            (Decoded::Load(this), Line::Guest { access, .. }) => this.fits(access),
+            (Decoded::Store(this), Line::Guest { access, .. }) => this.fits(access),
             _ => false,
         }
+    }
+}
+
+/// Whether a register can hold this value: x0 is 0.
+fn can_hold(register: u64, value: u64) -> bool {
+    register != 0 || value == 0
+}
+
+impl Load {
+    /// Whether it is this access. Of 8 bytes there is nothing to extend.
+    fn fits(&self, access: &GuestAccess) -> bool {
+        let loads_so = match access.operation {
+            GuestOperation::Load { signed: true } => self.loading == Loading::Signed,
+            GuestOperation::Load { signed: false } => {
+                self.loading == Loading::Unsigned || self.width == 8
+            }
+            GuestOperation::LoadExecutable => self.loading == Loading::Executable,
+            GuestOperation::Store { .. } => false,
+        };
+        loads_so && self.width == access.width && can_hold(self.address, access.address)
+    }
+}
+
+impl Store {
+    /// Whether it is this access.
+    fn fits(&self, access: &GuestAccess) -> bool {
+        let stores_it = match access.operation {
+            GuestOperation::Store { value } => can_hold(self.source, value),
+            _ => false,
+        };
+        stores_it && self.width == access.width && can_hold(self.address, access.address)
     }
 }
 
@@ -200,6 +335,8 @@ impl Display for Decoded {
             Decoded::Bare(instruction) => text.write_str(name(*instruction)),
             Decoded::Fence(fence) => fence.fmt(text),
             Decoded::Access(access) => access.fmt(text),
+            Decoded::Load(load) => load.fmt(text),
+            Decoded::Store(store) => store.fmt(text),
             Decoded::OtherSystem => {
                 text.write_str("a SYSTEM instruction that the model has no event for")
             }
@@ -235,6 +372,26 @@ impl Display for Fence {
             0 => write!(text, "all {space}s"),
             register => write!(text, "the {space} in x{register}"),
         }
+    }
+}
+
+impl Display for Load {
+    fn fmt(&self, text: &mut Formatter) -> Result {
+        write!(
+            text,
+            "{}: x{} loaded from the address in x{}",
+            self.name, self.destination, self.address
+        )
+    }
+}
+
+impl Display for Store {
+    fn fmt(&self, text: &mut Formatter) -> Result {
+        write!(
+            text,
+            "{}: x{} stored at the address in x{}",
+            self.name, self.source, self.address
+        )
     }
 }
 

@@ -263,9 +263,7 @@ fn registers_and_operands() {
 #[test]
 fn other_system_instructions() {
     for word in [
-        // Bits 14:12 are 4: HLV.W, HSV.D, and others.
-        0x6805_4573,
-        0x6eb5_4073,
+        // Bits 14:12 are 4, and it is no hypervisor load or store.
         0x3000_4073,
         0xffff_cff3,
         // They are 0, and it is none of the table.
@@ -278,13 +276,158 @@ fn other_system_instructions() {
     }
 }
 
+/// Lines of hypervisor loads and stores, without their word: two addresses for each width, and of a store two values.
+const GUEST_EVENTS: [&str; 36] = [
+    "hlv 1 0 0",
+    "hlv 1 0 80",
+    "hlv 1 1 0",
+    "hlv 1 1 80",
+    "hlv 2 0 0",
+    "hlv 2 0 80",
+    "hlv 2 1 0",
+    "hlv 2 1 80",
+    "hlv 4 0 0",
+    "hlv 4 0 80",
+    "hlv 4 1 0",
+    "hlv 4 1 80",
+    "hlv 8 0 0",
+    "hlv 8 0 80",
+    "hlv 8 1 0",
+    "hlv 8 1 80",
+    "hlvx 1 0",
+    "hlvx 2 0",
+    "hlvx 2 80",
+    "hlvx 4 0",
+    "hlvx 4 80",
+    "hlvx 8 0",
+    "hsv 1 0 0",
+    "hsv 1 0 5",
+    "hsv 1 80 0",
+    "hsv 1 80 5",
+    "hsv 2 0 0",
+    "hsv 2 80 5",
+    "hsv 4 0 0",
+    "hsv 4 80 5",
+    "hsv 8 0 0",
+    "hsv 8 0 5",
+    "hsv 8 80 0",
+    "hsv 8 80 5",
+    "hlv 3 1 0",
+    "hsv 0 0 0",
+];
+
+/// A word that fits exactly those of these and of the other events that `fits` says.
+fn fits_guest(word: u32, instruction: &str, fits: impl Fn(&str) -> bool) {
+    let events = GUEST_EVENTS.into_iter().chain(WITH_WORD);
+    let (fitting, others): (Vec<&str>, Vec<&str>) = events.partition(|event| fits(event));
+    assert!(!fitting.is_empty(), "{instruction}");
+    check(word, instruction, &fitting, &others);
+}
+
+/// The bits of a hypervisor load or store.
+fn guest(function: u32, t: u32, s: u32, d: u32) -> u32 {
+    function << 25 | t << 20 | s << 15 | 4 << 12 | d << 7 | 0x73
+}
+
+#[test]
+fn hypervisor_loads() {
+    for (function, kind, name, events) in [
+        (0x30, 0, "HLV.B", &["hlv 1 1 "][..]),
+        (0x30, 1, "HLV.BU", &["hlv 1 0 "]),
+        (0x32, 0, "HLV.H", &["hlv 2 1 "]),
+        (0x32, 1, "HLV.HU", &["hlv 2 0 "]),
+        (0x32, 3, "HLVX.HU", &["hlvx 2 "]),
+        (0x34, 0, "HLV.W", &["hlv 4 1 "]),
+        (0x34, 1, "HLV.WU", &["hlv 4 0 "]),
+        (0x34, 3, "HLVX.WU", &["hlvx 4 "]),
+        (0x36, 0, "HLV.D", &["hlv 8 1 ", "hlv 8 0 "]),
+    ] {
+        for d in [0, 1, 10, 31] {
+            let begins = |event: &str| events.iter().any(|of| event.starts_with(of));
+            for s in [1, 10, 16, 31] {
+                let text = format!("{name}: x{d} loaded from the address in x{s}");
+                fits_guest(guest(function, kind, s, d), &text, begins);
+            }
+            // x0 is 0.
+            let text = format!("{name}: x{d} loaded from the address in x0");
+            fits_guest(guest(function, kind, 0, d), &text, |event| {
+                begins(event) && event.ends_with(" 0")
+            });
+        }
+    }
+    // As the manual's table has them, from x10 to x11.
+    for (word, name) in [
+        (0x6005_45f3, "HLV.B"),
+        (0x6015_45f3, "HLV.BU"),
+        (0x6405_45f3, "HLV.H"),
+        (0x6415_45f3, "HLV.HU"),
+        (0x6435_45f3, "HLVX.HU"),
+        (0x6805_45f3, "HLV.W"),
+        (0x6815_45f3, "HLV.WU"),
+        (0x6835_45f3, "HLVX.WU"),
+        (0x6c05_45f3, "HLV.D"),
+    ] {
+        let text = format!("{name}: x11 loaded from the address in x10");
+        check(word, &text, &[], &["wfi", "read 640"]);
+    }
+}
+
+#[test]
+fn hypervisor_stores() {
+    for (function, name, event) in [
+        (0x31, "HSV.B", "hsv 1 "),
+        (0x33, "HSV.H", "hsv 2 "),
+        (0x35, "HSV.W", "hsv 4 "),
+        (0x37, "HSV.D", "hsv 8 "),
+    ] {
+        for (t, s) in [(0, 0), (0, 10), (11, 0), (11, 10), (31, 16), (3, 31)] {
+            let text = format!("{name}: x{t} stored at the address in x{s}");
+            fits_guest(guest(function, t, s, 0), &text, |line| {
+                let rest = line.strip_prefix(event);
+                rest.is_some_and(|rest| {
+                    let (address, value) = rest.split_once(' ').unwrap();
+                    (s != 0 || address == "0") && (t != 0 || value == "0")
+                })
+            });
+        }
+        // Bits 11:7 are not 0.
+        for bit in 7..12 {
+            fits_alone(guest(function, 5, 6, 0) | 1 << bit, OTHER_SYSTEM, &[]);
+        }
+    }
+    fits_alone(0x6eb5_4073, "HSV.D: x11 stored at the address in x10", &[]);
+}
+
+/// Of bits 14:12 being 4 with other bits 31:20 it is none of them.
+#[test]
+fn what_is_no_hypervisor_load_or_store() {
+    for (function, kinds) in [
+        (0x30, vec![0, 1]),
+        (0x32, vec![0, 1, 3]),
+        (0x34, vec![0, 1, 3]),
+        (0x36, vec![0]),
+    ] {
+        for kind in (0..32).filter(|kind| !kinds.contains(kind)) {
+            fits_alone(guest(function, kind, 10, 11), OTHER_SYSTEM, &[]);
+        }
+    }
+    for function in (0..128).filter(|function| !(0x30..0x38).contains(function)) {
+        fits_alone(guest(function, 0, 10, 0), OTHER_SYSTEM, &[]);
+    }
+    // With bits 14:12 other than 4 they are what they were.
+    let text = "HFENCE.GVMA: the address in x10, all VMIDs";
+    fits_alone(guest(0x31, 0, 10, 0) & !(7 << 12), text, &["hfence.gvma"]);
+    let text = "CSRRW: x10 written to hip (644), the old value to x0";
+    fits_alone(guest(0x32, 4, 10, 0) ^ 5 << 12, text, &[]);
+}
+
 /// Bits 6:0 are not 73.
 #[test]
 fn no_system_instructions() {
     for word in [0, u32::MAX, 1 << 31, 0x13, 0x3, 0x1073_0000, 0x7300] {
         fits_alone(word, NO_SYSTEM, &[]);
     }
-    for word in [0x73, 0x3020_0073, 0x1200_0073, 0x3000_2073] {
+    for word in [0x73, 0x3020_0073, 0x1200_0073, 0x3000_2073, 0x6c05_45f3] {
         for bit in 0..7 {
             fits_alone(word ^ (1 << bit), NO_SYSTEM, &[]);
         }

@@ -4,6 +4,7 @@ use second::access::{access, Action};
 use second::address::Machine;
 use second::calls::{ebreak, ecall};
 use second::hart::{Hart, Mode};
+use second::hypervisor::{reach, GuestAccess, Operation};
 use second::image::Image;
 use second::interrupts::{interrupt, Why};
 use second::reasons::Reason;
@@ -288,6 +289,124 @@ fn an_interrupt_changes_nothing_that_decides_it() {
     }
 }
 
+/// An image, taken or not, with some numbers in it.
+fn any_image(random: &mut Random) -> Image {
+    let base = match random.below(3) {
+        0 => random.number(),
+        _ => random.number() & 0xff_ffff_ffff_f000,
+    };
+    let mut image = Image {
+        base,
+        bytes: vec![0; [0, 7, 4096, 8192][random.below(4) as usize]],
+    };
+    for _ in 0..4 {
+        let address = base.wrapping_add(random.below(8192));
+        let value = random.number();
+        image.put(Machine(address), value);
+    }
+    image
+}
+
+/// What holds of a hypervisor load or store, done, trapped or refused. An address of the image is often one that it reaches.
+#[test]
+fn hypervisor_loads_and_stores_of_any_numbers() {
+    let mut random = Random(0xabcd);
+    let mut done = 0;
+    for _ in 0..20_000 {
+        let mut hart = match random.below(4) {
+            0 => any_hart(&mut random),
+            _ => legal_hart(&mut random),
+        };
+        if random.below(2) == 0 {
+            (hart.vsatp, hart.hgatp) = (0, 0);
+        }
+        let mut image = any_image(&mut random);
+        let access = GuestAccess {
+            operation: match random.below(3) {
+                0 => Operation::Load {
+                    signed: random.below(2) == 1,
+                },
+                1 => Operation::LoadExecutable,
+                _ => Operation::Store {
+                    value: random.number(),
+                },
+            },
+            address: match random.below(2) {
+                0 => random.number(),
+                _ => image.base.wrapping_add(random.below(1024) * 8),
+            },
+            width: match random.below(8) {
+                0 => random.number(),
+                _ => 1 << random.below(4),
+            },
+        };
+        let before = image.clone();
+        let word = random.bits() as u32;
+        let reached = reach(&hart, &mut image, &access, word);
+        let is_store = matches!(access.operation, Operation::Store { .. });
+        assert_eq!(reached.value.is_none(), is_store);
+        check_reason_of_access(&reached.outcome);
+        let places = &reached.list.places[reached.list.count..];
+        assert!(places.iter().all(|place| *place == Read::default()));
+        for read in reached.list.items() {
+            assert_eq!(before.read(Machine(read.address)), Some(read.value));
+        }
+        let Some(machine) = reached.machine else {
+            assert_eq!(image, before, "nothing is stored");
+            assert!(matches!(reached.value, None | Some(0)));
+            match reached.outcome.ending {
+                Ending::Refused(number) => {
+                    assert!((1..=3).contains(&number));
+                    assert_eq!(reached.outcome.hart, hart, "hart as given");
+                    assert_eq!(reached.list, List::default());
+                }
+                Ending::Trapped(trap, target) => {
+                    assert!(reached.outcome.hart.checked_mode().is_some());
+                    // "a trap request delivers the fault", as if it were asked for.
+                    assert_eq!(reached.outcome.hart, request(&hart, &trap).hart);
+                    assert!(target != Target::Vs);
+                    let forbidden = matches!(trap.cause, 2 | 22);
+                    let value = if forbidden {
+                        u64::from(word)
+                    } else {
+                        access.address
+                    };
+                    assert_eq!((trap.value, trap.flag), (value, !forbidden));
+                }
+                Ending::Done => panic!("done without its bytes"),
+            }
+            continue;
+        };
+        done += 1;
+        assert_eq!(reached.outcome.ending, Ending::Done);
+        assert_eq!(reached.outcome.hart, hart.moved_on());
+        assert!(before.holds(machine, access.width));
+        let start = (machine.0 - before.base) as usize;
+        let end = start + access.width as usize;
+        assert_eq!(image.bytes[..start], before.bytes[..start]);
+        assert_eq!(image.bytes[end..], before.bytes[end..]);
+        match access.operation {
+            Operation::Store { value } => {
+                let bytes = value.to_le_bytes();
+                assert_eq!(image.bytes[start..end], bytes[..access.width as usize]);
+            }
+            _ => assert_eq!(image, before, "a load writes nothing"),
+        }
+    }
+    assert!(done > 500, "{done}");
+}
+
+/// A hypervisor load or store that is refused or traps has a reason, by its cause, and one that is done has none.
+fn check_reason_of_access(outcome: &Outcome) {
+    match (outcome.ending, outcome.reason) {
+        (Ending::Trapped(trap, _), Some(Reason::Fault(_))) => {
+            assert!(matches!(trap.cause, 4..=7 | 13 | 15 | 21 | 23));
+        }
+        (Ending::Trapped(..), None) => panic!("a trap without a reason"),
+        _ => check_reason(outcome),
+    }
+}
+
 #[test]
 fn translations_of_any_numbers() {
     let mut random = Random(7);
@@ -296,19 +415,7 @@ fn translations_of_any_numbers() {
             0 => any_hart(&mut random),
             _ => legal_hart(&mut random),
         };
-        let base = match random.below(3) {
-            0 => random.number(),
-            _ => random.number() & 0xff_ffff_ffff_f000,
-        };
-        let mut image = Image {
-            base,
-            bytes: vec![0; [0, 7, 4096, 8192][random.below(4) as usize]],
-        };
-        for _ in 0..4 {
-            let address = base.wrapping_add(random.below(8192));
-            let value = random.number();
-            image.put(Machine(address), value);
-        }
+        let image = any_image(&mut random);
         let access = Access {
             kind: [Kind::Fetch, Kind::Load, Kind::Store][random.below(3) as usize],
             address: random.number(),

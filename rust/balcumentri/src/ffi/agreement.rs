@@ -1,6 +1,6 @@
-//! The descriptions of the C face against each other. The exported functions of crates/exports are the list of its calls; the
-//! header, the declarations in Rust and the archive's symbols must be that list. The numbers that the header names must be those of
-//! the crates' constants and of what the calls answer.
+//! The descriptions of the C face against each other. The exported functions of crates/exports and crates/exports_guest are the list
+//! of its calls; the header, the declarations in Rust and the archive's symbols must be that list. The numbers that the header names
+//! must be those of the crates' constants and of what the calls answer.
 
 use super::*;
 use std::collections::BTreeMap;
@@ -73,7 +73,8 @@ fn add(calls: &mut Calls, name: &str, parameters: Vec<(String, String)>, returns
 /// The list: the exported functions, each slice as a pointer and a length.
 fn exported() -> Calls {
     let mut calls = Calls::new();
-    for file in files(path("crates/exports/src"), "rt") {
+    let crates = ["crates/exports/src", "crates/exports_guest/src"];
+    for file in crates.into_iter().flat_map(|src| files(path(src), "rt")) {
         for function in code(&text(file)).split("pub extern \"C\" fn ").skip(1) {
             let (name, parameters, rest) = cut(function);
             let parameters = named(parameters).flat_map(lowered).collect();
@@ -89,12 +90,14 @@ fn lowered((name, kind): (&str, &str)) -> Vec<(String, String)> {
         "h" => "hart",
         "w" => "value",
         "value2" => "second",
+        "signed" => "is_signed",
         same => same,
     };
     let pointer = match kind {
         "&[u64]" => "*const u64",
         "&mut [u64]" => "*mut u64",
         "&[u8]" => "*const u8",
+        "&mut [u8]" => "*mut u8",
         number => return vec![(name.to_owned(), number.to_owned())],
     };
     let length = (LENGTH.to_owned(), "usize".to_owned());
@@ -165,6 +168,7 @@ fn c_words(declaration: &str) -> (String, String) {
         "const uint64_t *" => "*const u64",
         "const uint8_t *" => "*const u8",
         "uint64_t *" => "*mut u64",
+        "uint8_t *" => "*mut u8",
         other => panic!("{declaration}: the list has no type {other}"),
     };
     (declaration[start..].to_owned(), kind.to_owned())
@@ -256,29 +260,42 @@ fn value(expression: &str, constants: &BTreeMap<String, String>) -> u64 {
     expression.split('+').map(product).sum()
 }
 
-/// The crates' numbers of words, places and registers.
+/// The crates' numbers of words, places and registers. A file's own constants come before those of another with the same name.
 fn sizes() -> impl Fn(&str) -> u64 {
     let files = [
         "registers/src/places.rt",
         "stages/src/lib.rt",
         "layout/src/lib.rt",
         "listing/src/lib.rt",
+        "listing/src/guest.rt",
     ];
-    let all: BTreeMap<_, _> = files
-        .iter()
-        .flat_map(|file| constants(&format!("crates/{file}")))
-        .collect();
+    let mut all = BTreeMap::new();
+    for file in files {
+        let own = constants(&format!("crates/{file}"));
+        all.extend(own.clone());
+        for name in own.into_keys() {
+            let number = value(&name, &all).to_string();
+            all.insert(name, number);
+        }
+    }
     move |name| value(name, &all)
 }
 
 #[test]
 fn sizes_are_those_of_the_crates() {
     let size = sizes();
-    let here = [KEPT, HART, STEP, ACCESS, PLACES, TRANSLATION_WORDS].map(|words| words as u64);
-    assert_eq!(
-        here,
-        ["KEPT", "HART", "STEP", "ACCESS", "PLACES", "TRANSLATION"].map(&size)
-    );
+    let here = [
+        ("KEPT", KEPT),
+        ("HART", HART),
+        ("STEP", STEP),
+        ("ACCESS", ACCESS),
+        ("PLACES", PLACES),
+        ("TRANSLATION", TRANSLATION_WORDS),
+        ("PERFORMED", GUEST),
+    ];
+    for (name, words) in here {
+        assert_eq!(words as u64, size(name), "{name}");
+    }
     let bench = constants("rust/bench/src/call.rs");
     let timed = ["HART_WORDS", "TRANSLATION_WORDS"].map(|name| value(name, &bench));
     assert_eq!(timed, ["HART", "TRANSLATION"].map(&size));
@@ -363,6 +380,7 @@ fn header_defines_what_the_calls_answer() {
         ("STEP_WORDS", size("STEP")),
         ("ACCESS_WORDS", size("ACCESS")),
         ("TRANSLATION_WORDS", size("TRANSLATION")),
+        ("GUEST_WORDS", size("PERFORMED")),
         ("DONE", came_to(wfi(&reset(0, 3, 0), 0))),
         ("TRAPPED", came_to(ecall(&reset(0, 3, 0)))),
         ("ADDRESS", translated(0, 0, 4).1),

@@ -14,14 +14,17 @@ use second::trap::{Ending, Target};
 use super::interrupts::LEVELS;
 use super::{add, count, event_word};
 use crate::word_lines::{self, understand, UNLISTED};
-use crate::words::{case_of, cases, Case, INSTRUCTIONS};
+use crate::words::{case_of, cases, Case, Fields, INSTRUCTIONS};
 
 /// The register accesses.
 const ACCESSES: [&str; 4] = ["read", "write", "set", "clear"];
+/// The hypervisor loads and stores.
+pub const GUEST_EVENTS: [&str; 3] = ["hlv", "hlvx", "hsv"];
 
 /// The events that have a word.
 pub fn events() -> impl Iterator<Item = &'static str> {
-    ACCESSES.into_iter().chain(INSTRUCTIONS)
+    let others = INSTRUCTIONS.into_iter().chain(GUEST_EVENTS);
+    ACCESSES.into_iter().chain(others)
 }
 
 /// A trap that takes a word: the event, the cause, the mode and the target.
@@ -35,7 +38,7 @@ fn can_trap((event, cause, mode, target): &Trapped) -> bool {
         (_, _, Mode::M) => false,
         ("mret", cause, _) => *cause == 2,
         ("wfi", 2, _) => true,
-        ("hfence.vvma", 2, Mode::Hs) => false,
+        ("hfence.vvma" | "hlv" | "hlvx" | "hsv", 2, Mode::Hs) => false,
         (_, cause, mode) => mode.v() == (*cause == 22),
     };
     let goes = match target {
@@ -60,10 +63,13 @@ pub fn all_trapped() -> Vec<Trapped> {
     all
 }
 
-/// Each event refused as 2, and the register accesses as 5.
+/// Each event refused as 2, the register accesses as 5, and the hypervisor loads and stores as 1 and 3.
 pub fn all_refused() -> Vec<(&'static str, u64)> {
     let by_number = ACCESSES.map(|event| (event, 5));
-    events().map(|event| (event, 2)).chain(by_number).collect()
+    let by_image = GUEST_EVENTS.map(|event| (event, 1));
+    let by_width = GUEST_EVENTS.map(|event| (event, 3));
+    let others = by_number.into_iter().chain(by_image).chain(by_width);
+    events().map(|event| (event, 2)).chain(others).collect()
 }
 
 /// Whether a hart shows a trap with this word as its value, second value and word 0 and the flag clear.
@@ -123,9 +129,12 @@ impl Words {
         let ending = match answer {
             Answer::Register(accessed) => accessed.outcome.ending,
             Answer::Event(outcome) => outcome.ending,
+            Answer::Guest(reached) => reached.outcome.ending,
             _ => return,
         };
         match ending {
+            // A fault takes no word.
+            Ending::Trapped(trap, _) if !matches!(trap.cause, 2 | 22) => {}
             Ending::Trapped(trap, target) => {
                 let mode = before.checked_mode();
                 self.last = mode.map(|mode| ((event, trap.cause, mode, target), word));
@@ -275,16 +284,27 @@ impl Words {
 
 /// A case, for people.
 fn describe((form, instruction, fields): &Case) -> String {
-    let Some([zero, number, value]) = fields else {
-        return format!("{form} and {instruction}");
+    let facts: &[(&str, bool)] = match fields {
+        Fields::None => &[],
+        Fields::Access([zero, number, value]) => &[
+            ("S {}0", *zero),
+            ("N {}its number", *number),
+            ("S {}its value", *value),
+        ],
+        Fields::Load([s, address]) => &[("S {}0", *s), ("ADDRESS {}0", *address)],
+        Fields::Store([s, address, t, value]) => &[
+            ("S {}0", *s),
+            ("ADDRESS {}0", *address),
+            ("T {}0", *t),
+            ("VALUE {}0", *value),
+        ],
     };
-    let not = |is: &bool| if *is { "" } else { "not " };
-    format!(
-        "{form} and {instruction}, S {}0, N {}its number, S {}its value",
-        not(zero),
-        not(number),
-        not(value)
-    )
+    let mut text = format!("{form} and {instruction}");
+    for (fact, is) in facts {
+        let not = if *is { "" } else { "not " };
+        let _ = write!(text, ", {}", fact.replace("{}", not));
+    }
+    text
 }
 
 #[cfg(test)]
@@ -320,9 +340,9 @@ mod tests {
         assert_eq!(counts[..4], [access; 4]);
         assert_eq!(
             counts[4..],
-            [2 + 2 + 3 + 3, 8, 2 + 2 + 2 * (3 + 2), 8, 6, 8]
+            [2 + 2 + 3 + 3, 8, 2 + 2 + 2 * (3 + 2), 8, 6, 8, 6, 6, 6]
         );
-        assert_eq!(all_refused().len(), 14);
+        assert_eq!(all_refused().len(), 13 + 4 + 2 * 3);
         assert_eq!(registers().count(), 42);
     }
 
@@ -341,6 +361,7 @@ mod tests {
             "hart 0 0 0;wfi f0000001;ecall;show",
             "hart 0 3 0;wfi f0000001;show",
             "hart 0 0 0;trap 2 f0000001 0 0 0;show",
+            "hart 0 3 0;hlv 1 0 f0000001 f0000001;show",
         ] {
             assert_eq!(noted(script).shown, BTreeMap::new(), "{script}");
         }
@@ -384,7 +405,7 @@ mod tests {
         assert_eq!(words.lines.len(), 3);
         assert_eq!(words.registers.len(), 2);
         let missing = words.missing_lines();
-        assert_eq!(missing.len(), (54 - 3) + (84 - 2));
+        assert_eq!(missing.len(), (80 - 3) + (84 - 2));
         assert!(missing.contains(&"the word \"* is SRET\"".to_string()));
         assert!(missing.contains(&"a word that fits and names sstatus".to_string()));
         words.note_line("30200073 is mret");

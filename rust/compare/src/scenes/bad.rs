@@ -3,7 +3,7 @@
 use crate::scribe::Scribe;
 
 /// Lines that are bad whatever the image is.
-const ALWAYS_BAD: [&[u8]; 131] = [
+const ALWAYS_BAD: [&[u8]; 153] = [
     b"nonsense",
     b"Load 0 8",
     b"LOAD 0 8",
@@ -96,6 +96,28 @@ const ALWAYS_BAD: [&[u8]; 131] = [
     b"interrupt interrupt",
     b"interrupts",
     b"Interrupt",
+    b"hlv",
+    b"hlv 1 0 0",
+    b"hlv 1 0 0 0 0",
+    b"hlv 1 2 0 0",
+    b"hlv 1 10 0 0",
+    b"hlv 1 ffffffffffffffff 0 0",
+    b"hlv 1 100000001 0 0",
+    b"hlv 1 0 0 100000000",
+    b"hlv 1 x 0 0",
+    b"Hlv 1 0 0 0",
+    b"hlv.b 0 0",
+    b"hlvx",
+    b"hlvx 2 0",
+    b"hlvx 2 0 0 0",
+    b"hlvx 2 0 100000000",
+    b"hlvx 2 0 1 64354073",
+    b"hsv",
+    b"hsv 1 0 0",
+    b"hsv 1 0 0 0 0",
+    b"hsv 1 0 0 100000000",
+    b"hsv 1 0 0 ffffffffffffffff",
+    b"hsv 1 0 0#0",
     b"show 0",
     b"show show",
     b"image",

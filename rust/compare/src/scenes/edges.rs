@@ -1,6 +1,7 @@
 //! Images of odd length and base, accesses at the image's edge and around 2^56 and 2^64, large images, images from files.
 
-use second::hart::Mode;
+use second::hart::{Hart, Mode};
+use second::registers::HU;
 
 use crate::program::FILES;
 use crate::scribe::Scribe;
@@ -11,14 +12,20 @@ pub fn edges(scribe: &mut Scribe) {
     let length = choose_length(scribe);
     scribe.line(&format!("image {base:x} {length:x}"));
     let mode = scribe.mode();
-    scribe.hart(mode, 0);
+    let mut hart = Hart::new(0, 0, 0).in_mode(mode);
+    hart.hstatus |= 1 << HU;
     if scribe.rng.chance(20) {
         // MODE 0 is Bare, whatever is below.
-        scribe.reg(second::registers::SATP, 0x0fff_ffff_ffff_ffff);
-        scribe.reg(second::registers::VSATP, 0x0fff_ffff_ffff_ffff);
-        scribe.reg(second::registers::HGATP, 0x03ff_ffff_ffff_fffc);
+        hart.satp = 0x0fff_ffff_ffff_ffff;
+        hart.vsatp = 0x0fff_ffff_ffff_ffff;
+        hart.hgatp = 0x03ff_ffff_ffff_fffc;
     }
+    scribe.whole_hart(&hart);
     for _ in 0..12 {
+        if scribe.session.hart.checked_mode() != Some(mode) {
+            // A fault of a hypervisor load or store was delivered.
+            scribe.whole_hart(&hart);
+        }
         let edge = scribe.rng.pick(&[
             base,
             base.wrapping_add(length),
@@ -31,19 +38,24 @@ pub fn edges(scribe: &mut Scribe) {
     }
 }
 
+/// An access near an address: a translation or, outside the guest, often a hypervisor load or store.
 fn access(scribe: &mut Scribe, near: u64) {
+    let in_guest = scribe.session.hart.v == 1;
     let width = scribe.rng.pick(&[1, 2, 4, 8]);
     let aligned = if scribe.rng.chance(80) {
         near & !(width - 1)
     } else {
         near
     };
-    let text = match scribe.rng.below(3) {
+    let text = match scribe.rng.below(if in_guest { 3 } else { 6 }) {
         0 => format!("fetch {:x} 4", near & !3),
         1 => format!("load {aligned:x} {width:x}"),
-        _ => format!("store {aligned:x} {width:x}"),
+        2 => format!("store {aligned:x} {width:x}"),
+        3 => format!("hlvx 4 {:x}", near & !3),
+        4 => format!("hlv {width:x} {} {aligned:x}", scribe.rng.below(2)),
+        _ => format!("hsv {width:x} {aligned:x} {:x}", scribe.rng.number()),
     };
-    scribe.line(&text);
+    scribe.event(&text);
 }
 
 fn choose_base(scribe: &mut Scribe) -> u64 {

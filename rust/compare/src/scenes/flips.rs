@@ -6,7 +6,7 @@ use second::walk::{translate, Access, Answer, Kind};
 
 use crate::coverage::{words, Meeting};
 use crate::scenes::traps::BARE_EVENTS;
-use crate::scenes::walks::{choose_page, text};
+use crate::scenes::walks::{choose_page, text, user_translates};
 use crate::scribe::Scribe;
 use crate::tables::Tables;
 
@@ -22,7 +22,7 @@ pub fn flips(scribe: &mut Scribe, mode: Mode) {
             *word_of(&mut flipped, word) ^= 1 << bit;
             scribe.whole_hart(&flipped);
             meets(scribe, &hart, Meeting::Translation, &text(&access));
-            let event = event(scribe);
+            let event = event(scribe, access.address);
             meets(scribe, &hart, Meeting::Event, &event);
             scribe.show();
         }
@@ -61,7 +61,8 @@ fn good_access(scribe: &mut Scribe, tables: &Tables, mode: Mode) -> Access {
     };
     for _ in 0..40 {
         access.kind = scribe.rng.pick(&[Kind::Load, Kind::Store]);
-        access.address = choose_page(scribe, pages) + scribe.rng.below(512) * 8;
+        let user = user_translates(&scribe.session.hart);
+        access.address = choose_page(scribe, pages, user) + scribe.rng.below(512) * 8;
         let session = &scribe.session;
         let translation = translate(&session.hart, &session.image, &access);
         if matches!(translation.answer, Answer::Address(_)) {
@@ -71,17 +72,20 @@ fn good_access(scribe: &mut Scribe, tables: &Tables, mode: Mode) -> Access {
     access
 }
 
-/// An event with numbers that no call refuses.
-fn event(scribe: &mut Scribe) -> String {
+/// An event with numbers that no call refuses. Nothing is stored but what is mostly there: 0.
+fn event(scribe: &mut Scribe, address: u64) -> String {
     let number = scribe.rng.pick(&ROWS).number;
     let value = scribe.rng.number();
-    match scribe.rng.below(7) {
+    match scribe.rng.below(10) {
         0 => format!("read {number:x}"),
         1 => format!("write {number:x} {value:x}"),
         2 => format!("set {number:x} {value:x} 1"),
         3 => format!("clear {number:x} {value:x} 1"),
         4 => "trap 3 0 0 0 1".to_string(),
         5 => "interrupt".to_string(),
+        6 => format!("hlv 8 0 {address:x}"),
+        7 => format!("hlvx 4 {address:x}"),
+        8 => format!("hsv 1 {address:x} 0"),
         _ => scribe.rng.pick(&BARE_EVENTS).to_string(),
     }
 }

@@ -4,6 +4,8 @@ use second::hart::Mode;
 use second::registers::ROWS;
 
 use crate::coverage::bits::REGISTERS;
+use crate::coverage::words::GUEST_EVENTS;
+use crate::scenes::guest::{of_event, text};
 use crate::scenes::interrupts::pending_hart;
 use crate::scenes::registers::access;
 use crate::scenes::traps::{choose_cause, choose_trap, request, BARE_EVENTS};
@@ -25,7 +27,7 @@ pub fn journey(scribe: &mut Scribe) {
 
 /// One event: the higher the mode, the more often something that leaves it.
 fn step(scribe: &mut Scribe, mode: Mode) {
-    match scribe.rng.below(12) {
+    match scribe.rng.below(14) {
         0 | 1 => {
             let number = scribe.rng.pick(&ROWS).number;
             access(scribe, number);
@@ -54,6 +56,16 @@ fn step(scribe: &mut Scribe, mode: Mode) {
         }
         8 => {
             scribe.line("interrupt");
+        }
+        9 | 10 => {
+            let base = scribe.session.image.base;
+            let address = match scribe.rng.below(2) {
+                0 => base.wrapping_add(scribe.rng.below(0x200) * 8),
+                _ => scribe.rng.number() & !7,
+            };
+            let event = scribe.rng.pick(&GUEST_EVENTS);
+            let access = of_event(scribe, event, address);
+            scribe.event(&text(&access));
         }
         _ => {
             let word = scribe.rng.pick(&BARE_EVENTS);

@@ -4,6 +4,8 @@ use second::bits::with_field;
 use second::hart::{Hart, Mode};
 use second::registers::{self, MPRV, ROWS};
 
+use crate::coverage::words::GUEST_EVENTS;
+use crate::scenes::guest::{of_event, text};
 use crate::scenes::interrupts::pending_hart;
 use crate::scenes::traps::BARE_EVENTS;
 use crate::scribe::Scribe;
@@ -110,8 +112,9 @@ fn event(scribe: &mut Scribe, bad: bool) {
     } else {
         scribe.rng.pick(&ROWS).number
     };
-    let text = match scribe.rng.below(8) {
+    let text = match scribe.rng.below(10) {
         0..=2 => translation(scribe, bad),
+        8 | 9 => guest_access(scribe, bad),
         3 => format!("read {number:x}"),
         4 => format!("write {number:x} {:x}", scribe.rng.number()),
         5 if bad => scribe
@@ -137,6 +140,36 @@ fn event(scribe: &mut Scribe, bad: bool) {
     scribe.event(&text);
 }
 
+/// Widths that are none.
+const BAD_WIDTHS: [u64; 12] = [
+    0,
+    3,
+    5,
+    6,
+    7,
+    9,
+    16,
+    0x101,
+    0x104,
+    (1 << 32) + 4,
+    (1 << 63) + 8,
+    u64::MAX,
+];
+
+/// A hypervisor load or store, good or refused as 3.
+fn guest_access(scribe: &mut Scribe, bad: bool) -> String {
+    let address = scribe.rng.pick(&[0x8000_0000, 0, 0xff_ffff_ffff_f000]) + scribe.rng.below(16);
+    let event = scribe.rng.pick(&GUEST_EVENTS);
+    let mut access = of_event(scribe, event, address);
+    if bad {
+        access.width = match (event, scribe.rng.below(2)) {
+            ("hlvx", 0) => scribe.rng.pick(&[1, 8]),
+            _ => scribe.rng.pick(&BAD_WIDTHS),
+        };
+    }
+    text(&access)
+}
+
 /// A translation, good or refused as 3.
 fn translation(scribe: &mut Scribe, bad: bool) -> String {
     let address = scribe.rng.pick(&[0x8000_0000, 0, 0xff_ffff_ffff_f000]) + scribe.rng.below(16);
@@ -145,20 +178,7 @@ fn translation(scribe: &mut Scribe, bad: bool) -> String {
         let width = scribe.rng.pick(&[1, 2, 4, 8]);
         return format!("{word} {address:x} {width:x}");
     }
-    let width: u64 = scribe.rng.pick(&[
-        0,
-        3,
-        5,
-        6,
-        7,
-        9,
-        16,
-        0x101,
-        0x104,
-        (1 << 32) + 4,
-        (1 << 63) + 8,
-        u64::MAX,
-    ]);
+    let width = scribe.rng.pick(&BAD_WIDTHS);
     match scribe.rng.below(4) {
         0 => format!("fetch {:x} 4", address | 2),
         1 => {
@@ -225,12 +245,13 @@ pub fn fields(scribe: &mut Scribe) {
 }
 
 /// Events with numbers that no call refuses.
-const SIMPLE_EVENTS: [&str; 6] = [
+const SIMPLE_EVENTS: [&str; 7] = [
     "wfi",
     "ebreak",
     "interrupt",
     "read 340",
     "load 0 1",
+    "hlv 1 1 0",
     "trap 3 0 0 0 1",
 ];
 

@@ -1,12 +1,16 @@
-//! Translations through page tables: well formed ones, and the same ones damaged in every way that the rules name.
+//! Translations, and hypervisor loads and stores, through page tables: well formed ones, and the same ones damaged in every way that
+//! the rules name.
 
 use second::address::Machine;
+use second::bits::{bit, with_bit};
 use second::hart::{Hart, Mode};
-use second::registers::{self, find, with_mpp, MPRV, MPV, MXR, SUM};
+use second::hypervisor::{GuestAccess, Operation};
+use second::registers::{self, find, with_mpp, HU, MPRV, MPV, MXR, SPVP, SUM};
 use second::script::Answer;
 use second::trap::Trap;
-use second::walk::{self, translate, Access, Kind, Read};
+use second::walk::{self, translate, walk, Access, Kind, Read, Walked};
 
+use crate::scenes::guest;
 use crate::scribe::Scribe;
 use crate::tables::{Mapping, Tables, A, D, G, LEAF_BITS, R, U, V, W, X};
 
@@ -21,6 +25,15 @@ enum Regime {
     GuestPhysical,
     /// Every stage Bare.
     Bare,
+}
+
+/// How the accesses of a group are made.
+#[derive(Clone, Copy, PartialEq, Eq)]
+enum Way {
+    /// As translations.
+    Translation,
+    /// As hypervisor loads and stores: HLVX for a fetch.
+    Outside,
 }
 
 /// An image with tables, and some groups of accesses.
@@ -47,20 +60,46 @@ fn group(scribe: &mut Scribe, tables: &Tables) {
         Regime::GuestPhysical,
         Regime::Bare,
     ]);
-    let hart = hart_for(scribe, tables, regime);
+    let mut hart = hart_for(scribe, tables, regime);
+    let way = match regime {
+        Regime::Host => Way::Translation,
+        _ if scribe.rng.chance(25) => Way::Outside,
+        _ => Way::Translation,
+    };
+    if way == Way::Outside {
+        outside(scribe, &mut hart);
+    }
     scribe.whole_hart(&hart);
     for _ in 0..2 + scribe.rng.below(4) {
-        let access = choose_access(scribe, tables, regime);
+        let access = choose_access(scribe, tables, regime, way);
         if scribe.rng.chance(50) {
-            damaged_access(scribe, tables, &access);
+            damaged_access(scribe, tables, &access, way);
         } else {
-            perform(scribe, &access);
+            perform(scribe, &access, way);
         }
         scribe.show_sometimes(2);
-        if scribe.session.hart != hart {
+        let mut after = scribe.session.hart;
+        if way == Way::Outside {
+            // pc moves on with what is done.
+            after.pc = hart.pc;
+        }
+        if after != hart {
             // A fault was delivered.
             scribe.whole_hart(&hart);
         }
+    }
+}
+
+/// The same guest from outside: HS, M or, mostly with HU set, U. SPVP is mostly the guest's privilege; where MPRV is set, it is any.
+fn outside(scribe: &mut Scribe, hart: &mut Hart) {
+    let in_m = hart.checked_mode() == Some(Mode::M);
+    let other = scribe.rng.chance(if in_m { 50 } else { 10 });
+    let supervisor = user_translates(hart) == other;
+    hart.hstatus = with_bit(hart.hstatus, SPVP, supervisor);
+    hart.hstatus = with_bit(hart.hstatus, HU, scribe.rng.chance(80));
+    if !in_m {
+        let mode = scribe.rng.pick(&[Mode::Hs, Mode::Hs, Mode::U, Mode::M]);
+        *hart = hart.in_mode(mode);
     }
 }
 
@@ -118,18 +157,20 @@ fn through_mprv(scribe: &mut Scribe, hart: &mut Hart, mode: Mode) {
 }
 
 /// An access to a page of the regime: mostly one that suits the hart's privilege, at an aligned place.
-fn choose_access(scribe: &mut Scribe, tables: &Tables, regime: Regime) -> Access {
+fn choose_access(scribe: &mut Scribe, tables: &Tables, regime: Regime, way: Way) -> Access {
     let kind = scribe
         .rng
         .pick(&[Kind::Fetch, Kind::Load, Kind::Load, Kind::Store]);
     let width = match kind {
+        Kind::Fetch if way == Way::Outside => scribe.rng.pick(&[2, 4]),
         Kind::Fetch => 4,
         _ => scribe.rng.pick(&[1, 2, 4, 8]),
     };
+    let user = is_user(&scribe.session.hart, way);
     let page = match regime {
-        Regime::Host => choose_page(scribe, &tables.host),
-        Regime::Guest => choose_page(scribe, &tables.guest),
-        Regime::GuestPhysical => choose_page(scribe, &tables.guest_physical),
+        Regime::Host => choose_page(scribe, &tables.host, user),
+        Regime::Guest => choose_page(scribe, &tables.guest, user),
+        Regime::GuestPhysical => choose_page(scribe, &tables.guest_physical, user),
         Regime::Bare => tables.base + (scribe.rng.below(tables.length >> 12) << 12),
     };
     let mut address = page + scribe.rng.below(4096 / width) * width;
@@ -155,16 +196,26 @@ fn choose_access(scribe: &mut Scribe, tables: &Tables, regime: Regime) -> Access
     }
 }
 
-/// One of the pages, mostly one whose leaf suits the effective privilege.
-pub fn choose_page(scribe: &mut Scribe, pages: &[Mapping]) -> u64 {
+/// Whether the accesses of a hart are a user's.
+fn is_user(hart: &Hart, way: Way) -> bool {
+    match way {
+        Way::Translation => user_translates(hart),
+        Way::Outside => !bit(hart.hstatus, SPVP),
+    }
+}
+
+/// Whether the loads and stores of a hart are a user's.
+pub fn user_translates(hart: &Hart) -> bool {
+    let mode = hart.checked_mode();
+    let effective = mode.map(|mode| walk::effective_mode(hart, mode, Kind::Load));
+    matches!(effective, Some(Mode::U | Mode::Vu))
+}
+
+/// One of the pages, mostly one whose leaf suits a user or not.
+pub fn choose_page(scribe: &mut Scribe, pages: &[Mapping], user: bool) -> u64 {
     if pages.is_empty() {
         return scribe.rng.bits() & !0xfff;
     }
-    let hart = scribe.session.hart;
-    let effective = hart
-        .checked_mode()
-        .map(|mode| walk::effective_mode(&hart, mode, Kind::Load));
-    let user = matches!(effective, Some(Mode::U | Mode::Vu));
     let mut chosen = scribe.rng.pick(pages);
     for _ in 0..3 {
         if (chosen.flags & U != 0) == user {
@@ -186,7 +237,11 @@ pub fn text(access: &Access) -> String {
 }
 
 /// An access, and sometimes the delivery of its fault.
-fn perform(scribe: &mut Scribe, access: &Access) {
+fn perform(scribe: &mut Scribe, access: &Access, way: Way) {
+    if way == Way::Outside {
+        let access = from_outside(scribe, access);
+        return reach(scribe, &access);
+    }
     let answer = scribe.line(&text(access));
     let Answer::Translation(translation) = answer else {
         return;
@@ -195,6 +250,55 @@ fn perform(scribe: &mut Scribe, access: &Access) {
         if scribe.rng.chance(12) {
             deliver(scribe, &trap);
         }
+    }
+}
+
+/// The hypervisor load or store for an access.
+fn from_outside(scribe: &mut Scribe, access: &Access) -> GuestAccess {
+    GuestAccess {
+        operation: match access.kind {
+            Kind::Fetch => Operation::LoadExecutable,
+            Kind::Load => Operation::Load {
+                signed: scribe.rng.chance(50),
+            },
+            Kind::Store => Operation::Store {
+                value: scribe.rng.number(),
+            },
+        },
+        address: access.address,
+        width: access.width,
+    }
+}
+
+/// A hypervisor load or store. Where there is nothing to load, something is put there before; where an entry is stored over, it is put
+/// back after another access, which may have walked it.
+fn reach(scribe: &mut Scribe, access: &GuestAccess) {
+    let hart = scribe.session.hart;
+    let image = &scribe.session.image;
+    let Walked { end, .. } = walk(&hart, image, &access.access(), access.manner(&hart));
+    let word = end.ok().map(|machine| Machine(machine.0 & !7));
+    let there = word.and_then(|word| Some((word, image.read(word)?)));
+    let store = matches!(access.operation, Operation::Store { .. });
+    if let (Some((word, 0)), false) = (there, store) {
+        let value = scribe.rng.bits();
+        scribe.put(word.0, value);
+    }
+    scribe.event(&guest::text(access));
+    scribe.show_sometimes(8);
+    let Some((word, old)) = there.filter(|_| store) else {
+        return;
+    };
+    if scribe.session.image.read(word) == Some(old) {
+        return;
+    }
+    let mut again = *access;
+    if scribe.rng.chance(70) {
+        (again.operation, again.width) = (Operation::Load { signed: false }, 8);
+        again.address &= !7;
+    }
+    scribe.event(&guest::text(&again));
+    if old != 0 {
+        scribe.put(word.0, old);
     }
 }
 
@@ -269,20 +373,20 @@ const DAMAGES: [Damage; 24] = [
 ];
 
 /// An access whose tables, registers or address are damaged just for it.
-fn damaged_access(scribe: &mut Scribe, tables: &Tables, access: &Access) {
+fn damaged_access(scribe: &mut Scribe, tables: &Tables, access: &Access, way: Way) {
     match scribe.rng.below(20) {
-        0 | 1 => with_other_register(scribe, tables, access),
+        0 | 1 => with_other_register(scribe, tables, access, way),
         2 => {
             let high = 1 << (38 + scribe.rng.below(26));
             let address = access.address ^ high;
-            perform(scribe, &Access { address, ..*access });
+            perform(scribe, &Access { address, ..*access }, way);
         }
-        _ => with_damaged_entry(scribe, tables, access),
+        _ => with_damaged_entry(scribe, tables, access, way),
     }
 }
 
 /// With another root in satp, vsatp or hgatp.
-fn with_other_register(scribe: &mut Scribe, tables: &Tables, access: &Access) {
+fn with_other_register(scribe: &mut Scribe, tables: &Tables, access: &Access, way: Way) {
     let (number, old) = scribe.rng.pick(&[
         (registers::SATP, scribe.session.hart.satp),
         (registers::VSATP, scribe.session.hart.vsatp),
@@ -298,32 +402,44 @@ fn with_other_register(scribe: &mut Scribe, tables: &Tables, access: &Access) {
         None => old,
     };
     scribe.reg(number, other);
-    perform(scribe, access);
+    perform(scribe, access, way);
     if scribe.session.hart.stored(number) == Some(other) {
         scribe.reg(number, old);
     }
 }
 
 /// With one entry of its walk damaged.
-fn with_damaged_entry(scribe: &mut Scribe, tables: &Tables, access: &Access) {
-    let walk = translate(&scribe.session.hart, &scribe.session.image, access);
-    let items = walk.list.items();
-    if items.is_empty() {
-        return perform(scribe, access);
+fn with_damaged_entry(scribe: &mut Scribe, tables: &Tables, access: &Access, way: Way) {
+    let list = listed(scribe, access, way);
+    if list.is_empty() {
+        return perform(scribe, access, way);
     }
-    let read = choose_entry(scribe, items);
+    let read = choose_entry(scribe, &list);
     let damage = scribe.rng.pick(&DAMAGES);
     let entry = damaged(scribe, tables, &read, damage);
-    let access = suited(scribe, access, damage);
+    let access = suited(scribe, access, damage, way);
     scribe.put(read.address, entry);
-    perform(scribe, &access);
+    perform(scribe, &access, way);
     if scribe.rng.chance(15) {
-        let other = choose_kind(scribe, &access);
-        perform(scribe, &other);
+        let other = choose_kind(scribe, &access, way);
+        perform(scribe, &other, way);
     }
     if scribe.session.image.read(Machine(read.address)) != Some(read.value) {
         scribe.put(read.address, read.value);
     }
+}
+
+/// The list of an access.
+fn listed(scribe: &mut Scribe, access: &Access, way: Way) -> Vec<Read> {
+    let list = match way {
+        Way::Translation => translate(&scribe.session.hart, &scribe.session.image, access).list,
+        Way::Outside => {
+            let access = from_outside(scribe, access);
+            let (hart, image) = (&scribe.session.hart, &scribe.session.image);
+            walk(hart, image, &access.access(), access.manner(hart)).list
+        }
+    };
+    list.items().to_vec()
 }
 
 /// An entry of the list: half of the time a leaf, where most rules are.
@@ -382,7 +498,7 @@ fn large_leaf_with_low_ppn(scribe: &mut Scribe, read: &Read) -> u64 {
 }
 
 /// The access that the damage is about: a store for D and W, a fetch for X, a load for R.
-fn suited(scribe: &mut Scribe, access: &Access, damage: Damage) -> Access {
+fn suited(scribe: &mut Scribe, access: &Access, damage: Damage, way: Way) -> Access {
     let kind = match damage {
         Damage::NotDirty | Damage::NotWritable => Kind::Store,
         Damage::NotExecutable => Kind::Fetch,
@@ -390,21 +506,22 @@ fn suited(scribe: &mut Scribe, access: &Access, damage: Damage) -> Access {
         _ => access.kind,
     };
     if scribe.rng.chance(75) {
-        with_kind(access, kind)
+        with_kind(access, kind, way)
     } else {
         *access
     }
 }
 
 /// Another kind of access to the same place.
-fn choose_kind(scribe: &mut Scribe, access: &Access) -> Access {
+fn choose_kind(scribe: &mut Scribe, access: &Access, way: Way) -> Access {
     let kind = scribe.rng.pick(&[Kind::Fetch, Kind::Load, Kind::Store]);
-    with_kind(access, kind)
+    with_kind(access, kind, way)
 }
 
-/// The same access with another kind; a fetch is one of 4 bytes at a multiple of 4.
-fn with_kind(access: &Access, kind: Kind) -> Access {
+/// The same access with another kind; a fetch is one of 4 bytes at a multiple of 4, HLVX one of 2 or 4.
+fn with_kind(access: &Access, kind: Kind, way: Way) -> Access {
     match kind {
+        Kind::Fetch if way == Way::Outside && access.width == 2 => Access { kind, ..*access },
         Kind::Fetch => Access {
             kind,
             address: access.address & !3,

@@ -12,7 +12,7 @@ use crate::coverage::words::{all_refused, all_trapped, events, Trapped};
 use crate::scenes::interrupts::fill_written;
 use crate::scenes::traps::trapping_hart;
 use crate::scribe::Scribe;
-use crate::words::{cases, named, Case};
+use crate::words::{cases, named, Case, Fields, LOAD_FORMS, STORE_FORMS};
 
 /// Everything that words can come to.
 pub fn all_in_turn(scribe: &mut Scribe) {
@@ -23,6 +23,7 @@ pub fn all_in_turn(scribe: &mut Scribe) {
         }
     }
     each_ending(scribe);
+    scribe.line("image 0 1000");
     for (place, case) in cases().into_iter().enumerate() {
         if place % 16 == 0 {
             let mode = scribe.mode();
@@ -64,14 +65,18 @@ fn goes(hart: &Hart, line: &str, cause: u64, target: Target) -> bool {
     let ending = match line.and_then(|line| session.perform(&line).ok()) {
         Some(Answer::Register(accessed)) => accessed.outcome.ending,
         Some(Answer::Event(outcome)) => outcome.ending,
+        Some(Answer::Guest(reached)) => reached.outcome.ending,
         _ => return false,
     };
     matches!(ending, Ending::Trapped(trap, to) if (trap.cause, to) == (cause, target))
 }
 
-/// The line of an event of this form, without its word. A set or clear has its flag behind it.
+/// The line of an event of this form, without its word: that of a register access with this number and this value, of a hypervisor
+/// load or store with this address and this value. A set or clear has its flag behind it.
 fn text(form: &str, number: u64, value: u64) -> String {
     match form.split_once(' ') {
+        Some(("hlv" | "hlvx", _)) => format!("{form} {number:x}"),
+        Some(("hsv", _)) => format!("{form} {number:x} {value:x}"),
         Some((event, flag)) => format!("{event} {number:x} {value:x} {flag}"),
         None if form == "read" => format!("read {number:x}"),
         None if form == "write" => format!("write {number:x} {value:x}"),
@@ -79,28 +84,48 @@ fn text(form: &str, number: u64, value: u64) -> String {
     }
 }
 
-/// The line of an event in any form, without its word.
+/// The line of an event in any form, without its word. A hypervisor load or store has a width that is taken.
 fn any_form(scribe: &mut Scribe, event: &str, number: u64) -> String {
     let form = match event {
         "set" | "clear" => format!("{event} {}", scribe.rng.below(2)),
+        "hlv" => scribe.rng.pick(&LOAD_FORMS[..8]).to_string(),
+        "hlvx" => scribe.rng.pick(&LOAD_FORMS[10..12]).to_string(),
+        "hsv" => scribe.rng.pick(&STORE_FORMS[..4]).to_string(),
         _ => event.to_string(),
     };
     text(&form, number, scribe.rng.number())
 }
 
+/// A form with another width than 1, 2, 4 and 8, where it has none.
+fn with_width(scribe: &mut Scribe, form: &str) -> String {
+    let width = scribe
+        .rng
+        .pick(&[0, 3, 5, 6, 7, 9, 16, 0x104, (1u64 << 32) + 4]);
+    match form {
+        "hlv" => format!("hlv {width:x} {}", scribe.rng.below(2)),
+        "hlvx" | "hsv" => format!("{form} {width:x}"),
+        _ => form.to_string(),
+    }
+}
+
 /// Each event done in M, and refused.
 fn each_ending(scribe: &mut Scribe) {
-    let refused = all_refused()
-        .into_iter()
-        .map(|(event, refusal)| match refusal {
-            2 => (event, 2, MSCRATCH),
-            _ => (event, 0, MSCRATCH | 0x1000),
-        });
-    let done = events().map(|event| (event, 0, MSCRATCH));
-    for (event, pc, number) in done.chain(refused) {
-        let word = scribe.rng.bits() as u32 | 1;
+    let done = events().map(|event| (event, 0));
+    for (event, refusal) in done.chain(all_refused()) {
+        let pc = if refusal == 2 { 2 } else { 0 };
+        let base = if refusal == 1 { 8 } else { 0 };
+        let number = if refusal == 5 {
+            MSCRATCH | 0x1000
+        } else {
+            MSCRATCH
+        };
+        scribe.line(&format!("image {base:x} 1000"));
         scribe.hart(Mode::M, pc);
-        let line = any_form(scribe, event, number);
+        let line = match refusal {
+            3 => text(&with_width(scribe, event), number, 0),
+            _ => any_form(scribe, event, number),
+        };
+        let word = scribe.rng.bits() as u32 | 1;
         scribe.line(&format!("{line} {word:x}"));
         scribe.show();
     }
@@ -108,27 +133,35 @@ fn each_ending(scribe: &mut Scribe) {
 
 /// An event and its word that meet so.
 fn meet(scribe: &mut Scribe, (form, instruction, fields): Case) {
-    let number = scribe.rng.pick(&ROWS).number;
+    let mut number = scribe.rng.pick(&ROWS).number;
+    let mut value = scribe.rng.number();
     let pattern = named(instruction);
-    let (value, word) = match fields {
-        None => (scribe.rng.number(), pattern.word(&mut scribe.rng)),
-        Some([zero, own_number, own_value]) => {
-            let s = if zero { 0 } else { 1 + scribe.rng.below(31) };
-            let n = if own_number {
-                number
-            } else {
-                number ^ (1 << scribe.rng.below(12))
-            };
-            let value = if own_value {
-                s
-            } else {
-                s ^ (1 << scribe.rng.below(64))
-            };
-            let d = scribe.rng.below(32) as u32;
-            (value, pattern.with_fields(n as u32, s as u32, d))
+    let d = scribe.rng.below(32) as u32;
+    let mut register = |zero| if zero { 0 } else { 1 + scribe.rng.below(31) };
+    let word = match fields {
+        Fields::None => pattern.word(&mut scribe.rng),
+        Fields::Access([zero, own_number, own_value]) => {
+            let s = register(zero);
+            let other_number = number ^ (1 << scribe.rng.below(12));
+            let n = if own_number { number } else { other_number };
+            let other_value = s ^ (1 << scribe.rng.below(64));
+            value = if own_value { s } else { other_value };
+            pattern.with_fields(n as u32, s as u32, d)
+        }
+        Fields::Load([zero, no_address]) => {
+            let s = register(zero) as u32;
+            number = if no_address { 0 } else { number };
+            pattern.with_fields(0, s, d)
+        }
+        Fields::Store([zero, no_address, no_register, no_value]) => {
+            let (s, t) = (register(zero) as u32, register(no_register) as u32);
+            number = if no_address { 0 } else { number };
+            value = if no_value { 0 } else { value | 1 };
+            pattern.with_fields(t, s, 0)
         }
     };
-    let line = text(form, number, value);
+    let form = with_width(scribe, form);
+    let line = text(&form, number, value);
     scribe.line(&format!("{line} {word:x}"));
 }
 

@@ -6,13 +6,14 @@ use Rattle.rules.proofs.Need.test.Tie as tie
 returns : tie.Need-returns
 returns c =
     rw (
-      c .mask2 .ensures,
+      c .select4 .ensures,
       c .before .select3 .ensures,
       c .before .before .select2 .ensures,
-      c .before .before .before .select .ensures,
+      c .before .before .before .before .before .mask2 .ensures,
       c .before .before .before .before .before .before .mask .ensures,
-      test-code (c .before .before .before .before .before .before .before .args .self),
+      c .before .before .before .before .before .before .before .select .ensures,
+      test-code (c .before .before .before .before .before .before .before .before .args .self),
     )
 
 pub test-spec : {M : Type 1} → statement M
-test-spec = tie.close (tie.spec (λ c κs. search needs) (λ c κs. search needs) (λ c κs. search needs) (λ c κs. search needs) (λ c κs. search needs) returns)
+test-spec = tie.close (tie.spec (λ c κs. search needs) (λ c κs. search needs) (λ c κs. search needs) (λ c κs. search needs) (λ c κs. search needs) (λ c κs. search needs) returns)
