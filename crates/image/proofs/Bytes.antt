@@ -47,7 +47,14 @@ top-bit n x l = go (leb (2 ^ n) x) refl
         rw q
     go false e = let q : x / 2 ^ n ≡ 0 = div-eq-of-lt (leb-false (2 ^ n) x e) in rw q
 
--- the sign of a number of width bytes, as the code has it
+-- the sign of a number of width bytes: exactly if it is not below 2 ^ (8 width - 1)
+pub sign-bit : (width x : ℕ) → 1 ≤ width → width ≤ 8 → x < 2 ^ (8 * width) → has (8 * width - 1) x ≡ leb (2 ^ (8 * width - 1)) x
+sign-bit width x low high l =
+    let e : 8 * width ≡ 1 + (8 * width - 1) = omega arith in
+    let twice : 2 ^ (8 * width) ≡ 2 * 2 ^ (8 * width - 1) = ap (λ (k : ℕ). 2 ^ k) e ∙ pow-add 2 1 (8 * width - 1) in
+    top-bit (8 * width - 1) x (rw twice at l)
+
+-- the same as the code has it
 module _ (signed : Bool) (width x : ℕ) (low : 1 ≤ width) (high : width ≤ 8) (l : x < 2 ^ (8 * width)) where
   abbrev sign : ℕ
   sign = (1 * 2 ^ (8 * width - 1)) % 2 ^ 64
@@ -59,7 +66,7 @@ module _ (signed : Bool) (width x : ℕ) (low : 1 ≤ width) (high : width ≤ 8
   twice = let e : 8 * width ≡ 1 + (8 * width - 1) = omega arith in rw power (ap (λ (k : ℕ). 2 ^ k) e ∙ pow-add 2 1 (8 * width - 1))
 
   test : (signed && leb sign x) ≡ (signed && has (8 * width - 1) x)
-  test = ap (λ (b : Bool). signed && b) (ap (λ (n : ℕ). leb n x) power ∙ sym (top-bit (8 * width - 1) x (rw (twice, power) at l)))
+  test = ap (λ (b : Bool). signed && b) (ap (λ (n : ℕ). leb n x) power ∙ sym (sign-bit width x low high l))
 
   pub kept : (signed && leb sign x) ≡ false → x ≡ extended signed width x
   kept e = rw (sym test ∙ e)

@@ -4,22 +4,63 @@ use mathlib.Core.Bool.{Bool, true, false}
 use mathlib.Core.List.{List}
 use Prim.Native.Nat.{ℕ, _+_, _-_, _*_, _/_, _%_, _^_, _<_, _≤_}
 use native.Mathlib.Omega.{arith}
+use lib.Dec.{leb}
 use lib.ListN.{length, getD}
 use Rattle.bits.specs.Field.{pick}
 use Rattle.image.specs.Data.{little, bytesAt, extended, loaded, stored}
 use Rattle.image.proofs.Tests.{within-facts}
+use Rattle.image.proofs.Bytes.{sign-bit}
 use Rattle.image.proofs.Memory.{Apart, stored-length, stored-apart, stored-byte, same-bytes}
+use Rattle.access.proofs.Widths.{at-most-eight}
 use Rattle.stages.specs.Stages.{look}
 use Rattle.stages.specs.Through.{Agree}
 use Rattle.hypervisor.specs.declared.Operation.{Operation}
-use Rattle.hypervisor.specs.declared.Operation.the-variants.{Hsv}
+use Rattle.hypervisor.specs.declared.Operation.the-variants.{Hlv, Hlvx, Hsv}
 use Rattle.hart.specs.declared.state.Hart.{Hart}
 use Rattle.hart.specs.declared.guest.Reach.{Reach}
 use Rattle.hart.specs.declared.guest.Performed.{Performed}
 use Rattle.hart.specs.Event.{isDone}
-use Rattle.hart.specs.Guest.{reach, performed, load, hsv}
+use Rattle.hart.specs.Guest.{reach, performed, load, hlv, hlvx, hsv}
 use Rattle.hart.proofs.Reached.{done-inside}
 use Rattle.invariants.proofs.Reached.{listed, same-reach}
+
+-- ---- what is answered: hart, outcome, list and count are those of `reach`, of which demand 3 speaks
+
+pub record As (r : Reach) (p : Performed) : Type 0 where
+  pub hart : p .hart ≡ r .hart
+  pub outcome : p .outcome ≡ r .outcome
+  pub reads : p .reads ≡ r .reads
+  pub count : p .count ≡ r .count
+
+module _ (h : Hart) (base : ℕ) (bytes : List ℕ) (width address word : ℕ) where
+  pub hlv-as-reached : (signed : Bool) → As (reach h Hlv base bytes width address word) (hlv h base bytes width signed address word)
+  unfolding load
+  hlv-as-reached signed = record { hart = refl; outcome = refl; reads = refl; count = refl }
+
+  pub hlvx-as-reached : As (reach h Hlvx base bytes width address word) (hlvx h base bytes width address word)
+  unfolding load
+  hlvx-as-reached = record { hart = refl; outcome = refl; reads = refl; count = refl }
+
+  pub hsv-as-reached : (value : ℕ) → let p = hsv h base bytes width address value word .0 in As (reach h Hsv base bytes width address word) p × (p .value ≡ 0)
+  unfolding hsv
+  hsv-as-reached value = (record { hart = refl; outcome = refl; reads = refl; count = refl }, refl)
+
+  -- HLVX that is done answers its bytes, and so does an unsigned HLV
+  pub hlvx-answers : let r = reach h Hlvx base bytes width address word in isDone (r .outcome) ≡ true → hlvx h base bytes width address word .value ≡ little (bytesAt base bytes (r .at) width)
+  unfolding load loaded
+  hlvx-answers e = rw e
+
+  pub hlv-answers : let r = reach h Hlv base bytes width address word in isDone (r .outcome) ≡ true → hlv h base bytes width false address word .value ≡ little (bytesAt base bytes (r .at) width)
+  unfolding load loaded
+  hlv-answers e = rw e
+
+  -- a signed one answers them if they are below 2 ^ (8 width - 1), else what is 2 ^ 64 - 2 ^ (8 width) more
+  pub signed-answers : let r = reach h Hlv base bytes width address word in let x = little (bytesAt base bytes (r .at) width) in
+      isDone (r .outcome) ≡ true → x < 2 ^ (8 * width) → hlv h base bytes width true address word .value ≡ pick (leb (2 ^ (8 * width - 1)) x) (x + (2 ^ 64 - 2 ^ (8 * width))) x
+  unfolding load loaded
+  signed-answers e l =
+      let k = at-most-eight width (done-inside h Hlv base bytes width address word e .0) in
+      rw (e, sign-bit width _ (k .0) (k .1) l)
 
 -- ---- loads
 

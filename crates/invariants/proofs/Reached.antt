@@ -2,6 +2,7 @@
 use mathlib.Core.Path.{_≡_, refl, sym, ap, subst, _∙_}
 use mathlib.Core.Bool.{Bool, true, false, _||_, not}
 use mathlib.Core.List.{List, [], _∷_, _++_}
+use mathlib.Core.Logic.{_⊎_, inl, inr}
 use Prim.Native.Nat.{ℕ, suc, _+_, _-_, _*_, _%_, _<_, _≤_}
 use native.Mathlib.Nat.{mul-le-mul, zero-mul}
 use native.Mathlib.Omega.{arith}
@@ -9,10 +10,10 @@ use lib.Dec.{eqb}
 use lib.ListN.{length, take, drop}
 use lib.Seq.{take-append-seam, drop-append-seam}
 use borrow.Author.Tests.{eqb-true, not-false}
-use Rattle.bits.specs.Field.{pick}
+use Rattle.bits.specs.Field.{pick, get}
 use Rattle.bits.proofs.Bools.{clash}
-use Rattle.registers.specs.Fields.{MXR}
-use Rattle.registers.specs.Places.{vsatp, hgatp, mstatus}
+use Rattle.registers.specs.Fields.{MXR, HU}
+use Rattle.registers.specs.Places.{vsatp, hgatp, mstatus, hstatus}
 use Rattle.privilege.specs.Mode.{isSet}
 use Rattle.privilege.specs.declared.Verdict.{Verdict}
 use Rattle.instructions.specs.Instructions.{hypervisorAccess}
@@ -120,6 +121,25 @@ module _ (h : Hart) (o : Operation) (base : ℕ) (bytes : List ℕ) (width addre
       go Goes l = absurd (omega (arith, l, not-refused (walkFor base bytes accessed .end)))
       go (Halts true n) l = refl
       go (Halts false n) l = absurd (omega (arith, l))
+
+  -- "V=1 gives 22; U with HU=0 gives 2", in order, with an empty list; else its walk, also with V=0 in U with HU=1, in HS and in M
+  module _ (p : passes h ≡ true) (own : refusalOf o base (length bytes) width ≡ 0) where
+    pub gives-22 : h .v ≡ 1 → r ≡ unwalked (raised h 22 word)
+    unfolding reach
+    gives-22 v = rw (p, own, v)
+
+    pub gives-2 : h .v ≡ 0 → h .privilege ≡ 0 → get HU (reg h hstatus) ≡ 0 → r ≡ unwalked (raised h 2 word)
+    unfolding reach
+    gives-2 v u hu = rw (p, own, v, u, hu)
+
+    pub user-goes : h .v ≡ 0 → h .privilege ≡ 0 → get HU (reg h hstatus) ≡ 1 → r ≡ arrived h (walkFor base bytes accessed)
+    unfolding reach
+    user-goes v u hu = rw (p, own, v, u, hu)
+
+    pub host-goes : h .v ≡ 0 → (h .privilege ≡ 1) ⊎ (h .privilege ≡ 3) → r ≡ arrived h (walkFor base bytes accessed)
+    unfolding reach
+    host-goes v (inl s) = rw (p, own, v, s)
+    host-goes v (inr m) = rw (p, own, v, m)
 
   -- n first-stage levels over m second-stage levels: at most (n + 1) (m + 1) - 1 reads
   count-bound : r .count ≤ accessed .first .levels * suc (accessed .second .levels) + accessed .second .levels
