@@ -27,12 +27,12 @@ abbrev pub ended : Hart → End → Step
 ended h (yields m) = done (moved h)
 ended h (faults f) = trapped h f
 
--- where its bytes are
+-- the machine address of its bytes, 0 where it did not come to one
 abbrev pub landed : End → ℕ
 landed (yields m) = m .0
 landed (faults f) = 0
 
--- a step with nothing read
+-- a refusal, or 22 or 2: "with the list empty"
 abbrev pub unwalked : Step → Reach
 unwalked s = record { hart = s .hart; outcome = s .outcome; at = 0; reads = unused places; count = 0 }
 
@@ -40,20 +40,22 @@ unwalked s = record { hart = s .hart; outcome = s .outcome; at = 0; reads = unus
 abbrev pub arrives : Hart → End → List Read → (count : ℕ) → Reach
 arrives h e reads count = record { hart = ended h e .hart; outcome = ended h e .outcome; at = landed e; reads = reads; count = count }
 
+-- the list in its places, "unused places are zero", with its count
 abbrev pub arrived : Hart → Ran End → Reach
 arrived h r = arrives h (r .end) (padded places (r .reads)) (length (r .reads))
 
--- "V=1 gives 22; U with HU=0 gives 2; both carry the word"
+-- a refusal, or "V=1 gives 22; U with HU=0 gives 2; both carry the word"; else the walk's
 abbrev pub reachedBy : Stop → Hart → (word : ℕ) → Ran End → Reach
 reachedBy Goes h word r = arrived h r
 reachedBy (Halts refuses number) h word r = unwalked (settledBy (Halts refuses number) h word (ended h (r .end)))
 
--- all of it but for its bytes
+-- all of it but for its bytes: "Order: 2, then 1, then the call's own", then 22 and 2, then the walk "as V=1 with privilege SPVP"
 unfoldable pub reach : Hart → Operation → (base : ℕ) → List ℕ → (width address word : ℕ) → Reach
 reach h o base bytes width address word =
     reachedBy (stopOf h (refusalOf o base (length bytes) width) (hypervisorAccess (context h))) h word
     (walkFor base bytes (accessFor o (context h) (paging h) address width))
 
+-- what is answered: the hart, what it came to, a value and the list
 abbrev pub performed : Reach → (value : ℕ) → Performed
 performed r value = record { hart = r .hart; outcome = r .outcome; value = value; reads = r .reads; count = r .count }
 
@@ -63,10 +65,11 @@ load h o base bytes width signed address word =
     let r = reach h o base bytes width address word in
     performed r (pick (isDone (r .outcome)) (loaded base bytes (r .at) width signed) 0)
 
+-- "HLV of each width, signed and unsigned"
 abbrev pub hlv : Hart → (base : ℕ) → List ℕ → (width : ℕ) → (signed : Bool) → (address word : ℕ) → Performed
 hlv h base bytes width signed address word = load h Hlv base bytes width signed address word
 
--- HLVX.HU and HLVX.WU are unsigned
+-- "HLVX.HU and HLVX.WU": unsigned
 abbrev pub hlvx : Hart → (base : ℕ) → List ℕ → (width address word : ℕ) → Performed
 hlvx h base bytes width address word = load h Hlvx base bytes width false address word
 

@@ -44,7 +44,7 @@ offered o width = byOperation o (known width) (eqb width 2 || eqb width 4) (know
 unfoldable pub refusalOf : Operation → (base len width : ℕ) → ℕ
 refusalOf o base len width = pick (unfit base len) 1 (pick (not (offered o width)) 3 0)
 
--- the access: one that is made for the guest
+-- "They translate as V=1 with privilege SPVP": its access, made for the guest
 abbrev pub accessFor : Operation → Context → Paging → (address width : ℕ) → Access
 accessFor o c p address width = guestAccess c p (kindOf o) (rightNeeded o) address width
 

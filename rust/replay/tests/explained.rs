@@ -876,6 +876,7 @@ fn the_languages_page_shows_what_the_program_writes() {
         "hart 1 1 1000\nreg 302 400\nreg 105 2000\necall\nwrite 180 5000000000000000 18051073\n",
         "reg 300 a00001000\nwfi 30200073\n",
         "hart 1 0 1000\nreg 205 4001\nreg 603 40\nreg 304 40\nreg 344 40\ninterrupt\n",
+        "image 80000000 5000\nput 80000010 200000df\nput 80004010 80\nhart 0 1 1000\nreg 680 8000000000080000\nhlv 1 1 80004010 60054573\n",
     ] {
         let sample = format!("```text\n{}```\n", written("--explain", script));
         assert!(page.contains(&sample), "{sample}");

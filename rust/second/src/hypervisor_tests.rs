@@ -7,36 +7,14 @@ use crate::hart::BadHart;
 use crate::image::BadImage;
 use crate::registers::{with_mpp, HSTATUS_GVA, MPRV, MPV, MSTATUS_GVA, MXR, SPP, SPV, SUM};
 use crate::trap::{request, Ending, Target, Trap};
+use crate::walk::tests::{
+    entry, A, ALL_RIGHTS, BASE, D, DATA, FIRST_0, FIRST_1, FIRST_ROOT, GUEST, LENGTH, R, SECOND_0,
+    SECOND_1, U, V, VIRTUAL, W, X,
+};
 use crate::walk::{translate, Answer, Part, Read, Rule};
 
-const V: u64 = 1 << 0;
-const R: u64 = 1 << 1;
-const W: u64 = 1 << 2;
-const X: u64 = 1 << 3;
-const U: u64 = 1 << 4;
-const A: u64 = 1 << 6;
-const D: u64 = 1 << 7;
-const ALL_RIGHTS: u64 = V | R | W | X | U | A | D;
-
-const BASE: u64 = 0x8000_0000;
-const LENGTH: usize = 0x1_0000;
-/// Guest physical address GUEST + offset is machine address BASE + offset.
-const GUEST: u64 = 0x1_4000_0000;
-/// Virtual address VIRTUAL + offset is guest physical address GUEST + offset.
-const VIRTUAL: u64 = 0x4000_0000;
-/// Offsets of the tables and of a page of data.
-const SECOND_1: u64 = 0x4000;
-const SECOND_0: u64 = 0x5000;
-const FIRST_ROOT: u64 = 0x6000;
-const FIRST_1: u64 = 0x7000;
-const FIRST_0: u64 = 0x8000;
-const DATA: u64 = 0x9000;
 const WORD: u32 = 0xb2c5_80f3;
 const PC: u64 = 0x4000;
-
-fn entry(target: u64, flags: u64) -> u64 {
-    ((target >> 12) << 10) | flags
-}
 
 const HLV: Operation = Operation::Load { signed: false };
 const HLVX: Operation = Operation::LoadExecutable;

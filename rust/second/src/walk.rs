@@ -823,4 +823,4 @@ impl Walk<'_> {
 
 #[cfg(test)]
 #[path = "walk_tests.rs"]
-mod tests;
+pub(crate) mod tests;

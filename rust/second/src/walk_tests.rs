@@ -4,31 +4,31 @@ use super::*;
 use crate::bits::with_bit;
 use crate::registers::with_mpp;
 
-const V: u64 = 1 << PTE_V;
-const R: u64 = 1 << PTE_R;
-const W: u64 = 1 << PTE_W;
-const X: u64 = 1 << PTE_X;
-const U: u64 = 1 << PTE_U;
-const A: u64 = 1 << PTE_A;
-const D: u64 = 1 << PTE_D;
-const ALL_RIGHTS: u64 = V | R | W | X | U | A | D;
+pub(crate) const V: u64 = 1 << PTE_V;
+pub(crate) const R: u64 = 1 << PTE_R;
+pub(crate) const W: u64 = 1 << PTE_W;
+pub(crate) const X: u64 = 1 << PTE_X;
+pub(crate) const U: u64 = 1 << PTE_U;
+pub(crate) const A: u64 = 1 << PTE_A;
+pub(crate) const D: u64 = 1 << PTE_D;
+pub(crate) const ALL_RIGHTS: u64 = V | R | W | X | U | A | D;
 
-const BASE: u64 = 0x8000_0000;
-const LENGTH: usize = 0x1_0000;
+pub(crate) const BASE: u64 = 0x8000_0000;
+pub(crate) const LENGTH: usize = 0x1_0000;
 /// Guest physical address GUEST + offset is machine address BASE + offset.
-const GUEST: u64 = 0x1_4000_0000;
+pub(crate) const GUEST: u64 = 0x1_4000_0000;
 /// Virtual address VIRTUAL + offset is guest physical address GUEST + offset, or machine address BASE + offset with V=0.
-const VIRTUAL: u64 = 0x4000_0000;
+pub(crate) const VIRTUAL: u64 = 0x4000_0000;
 /// Offsets of the tables and of a page of data.
 const SECOND_ROOT: u64 = 0;
-const SECOND_1: u64 = 0x4000;
-const SECOND_0: u64 = 0x5000;
-const FIRST_ROOT: u64 = 0x6000;
-const FIRST_1: u64 = 0x7000;
-const FIRST_0: u64 = 0x8000;
-const DATA: u64 = 0x9000;
+pub(crate) const SECOND_1: u64 = 0x4000;
+pub(crate) const SECOND_0: u64 = 0x5000;
+pub(crate) const FIRST_ROOT: u64 = 0x6000;
+pub(crate) const FIRST_1: u64 = 0x7000;
+pub(crate) const FIRST_0: u64 = 0x8000;
+pub(crate) const DATA: u64 = 0x9000;
 
-fn entry(target: u64, flags: u64) -> u64 {
+pub(crate) fn entry(target: u64, flags: u64) -> u64 {
     ((target >> 12) << 10) | flags
 }
 
