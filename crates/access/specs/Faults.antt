@@ -25,6 +25,7 @@ pageFault a = raised a (by (a .kind) 12 13 15) 0 0
 abbrev pub guestPageFault : Access → Guest → Exception
 guestPageFault a guest = raised a (by (a .kind) 20 21 23) (guest .0 / 4) 0
 
--- A guest entry's: "raised as a load guest-page fault, 21, with instruction word 00003000 hex"
+-- A guest entry's, 2026-04: "the fault of the original access: 20, 21 or 23 .. Value, second value and instruction word stay": of document 01's sentence
+-- "with instruction word 00003000 hex" stays, "a load guest-page fault, 21" is withdrawn.
 abbrev pub entryFault : Access → Guest → Exception
-entryFault a guest = raised a 21 (guest .0 / 4) 0x3000
+entryFault a guest = raised a (by (a .kind) 20 21 23) (guest .0 / 4) 0x3000

@@ -130,17 +130,13 @@ impl Access {
         self.raise(20, 21, 23, guest.0 / 4)
     }
 
-    // The fault of a guest entry, always a load's.
+    // The fault of a guest entry: the access's own, with the word that says that the hart read it.
     pub fn entry_fault(self, guest: Guest) -> Exception
         ensures { λ r. ⌜ r ≡ entryFault self guest ⌝ }
     {
-        Exception {
-            cause: 21,
-            value: self.address,
-            value2: guest.0 / 4,
-            word: 0x3000,
-            flag: self.v,
-        }
+        let mut fault = self.raise(20, 21, 23, guest.0 / 4);
+        fault.word = 0x3000;
+        fault
     }
 
     // What the access asks of the first stage.

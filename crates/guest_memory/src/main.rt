@@ -186,6 +186,8 @@ fn faults(h: Hart, image: &mut [u8]) {
     hlv(h, &*image, 8, true, 0x5008);
     hsv(h, &mut *image, 8, 0x5008, 0);
     hlv(h, &*image, 8, true, 0x4020_0008);
+    hlvx(h, &*image, 4, 0x4020_0008);
+    hsv(h, &mut *image, 8, 0x4020_0008, 0);
 }
 
 // An entry stored into the guest's table: the next walk goes by it.

@@ -1,7 +1,7 @@
 -- Where the traps of hypervisor loads and stores go, and what they tell. Assumes nothing.
 use mathlib.Core.Path.{_≡_, refl, sym, subst, _∙_}
-use mathlib.Core.Bool.{Bool, true, false, _||_}
-use mathlib.Core.List.{List, [], _∷_}
+use mathlib.Core.Bool.{Bool, true, false}
+use mathlib.Core.List.{List}
 use mathlib.Core.Logic.{_⊎_, inl, inr}
 use Prim.Native.Nat.{ℕ, _/_}
 use native.Mathlib.Omega.{arith}
@@ -14,6 +14,7 @@ use Rattle.bits.proofs.Fields.{get-lt}
 use Rattle.bits.proofs.Tests.{fits, apart, got, other}
 use Rattle.registers.specs.Fields.{SPV, SPVP}
 use Rattle.registers.specs.Places.{kept, hstatus, medeleg, hedeleg}
+use Rattle.registers.specs.Rules.{among}
 use Rattle.exceptions.specs.declared.Exception.{Exception}
 use Rattle.traps.specs.Request.{impossible}
 use Rattle.instructions.specs.Instructions.{hypervisorAccess}
@@ -23,6 +24,7 @@ use Rattle.delivery.specs.Delivery.{target}
 use Rattle.access.specs.declared.Access.{Access}
 use Rattle.access.specs.Widths.{misaligned}
 use Rattle.access.specs.Faults.{raised, misalignment}
+use Rattle.rules.specs.declared.Kind.the-variants.{Load, Store}
 use Rattle.rules.specs.Kind.{by}
 use Rattle.stages.specs.Tree.{run}
 use Rattle.stages.specs.Stages.{yields, faults, look, walkOf}
@@ -39,6 +41,7 @@ use Rattle.hart.specs.Deliver.{deliveredM, deliveredHS, deliveredTo, delivered}
 use Rattle.hart.specs.Event.{plain, settled}
 use Rattle.hart.specs.Trap.{trap}
 use Rattle.hart.specs.Guest.{ended, reach}
+use Rattle.translate.specs.Causes.{causesOf}
 use Rattle.translate.proofs.Delivered.{can-misalign, can-access, can-page, can-guest-page, can-entry}
 use Rattle.invariants.specs.Events.{stepAt, told}
 use Rattle.invariants.proofs.Mode.{Mode, passing}
@@ -49,14 +52,9 @@ use Rattle.invariants.proofs.Reached.{misaligned-one}
 use Rattle.invariants.proofs.Sides.{only-from-guest}
 use Rattle.invariants.proofs.Told.{after-trap, tells, tells-plain}
 
--- one of some numbers
-abbrev pub among : List ℕ → ℕ → Bool
-among [] n = false
-among (x ∷ xs) n = eqb n x || among xs n
-
--- a load "faults as a load (4, 5, 13, 21)", HLVX too; a store with 6, 7, 15 and 23, and with 21 where a guest entry's read does
+-- HLV and HLVX fault as a load, HSV as a store
 abbrev pub causes : Operation → List ℕ
-causes o = byOperation o (4 ∷ 5 ∷ 13 ∷ 21 ∷ []) (4 ∷ 5 ∷ 13 ∷ 21 ∷ []) (6 ∷ 7 ∷ 15 ∷ 21 ∷ 23 ∷ [])
+causes o = byOperation o (causesOf Load) (causesOf Load) (causesOf Store)
 
 module _ (h : Hart) (o : Operation) (base : ℕ) (bytes : List ℕ) (width address word : ℕ) where
   abbrev a : Access
@@ -64,24 +62,19 @@ module _ (h : Hart) (o : Operation) (base : ℕ) (bytes : List ℕ) (width addre
 
   -- a fault of its access: "the value is the virtual address", "its flag the effective V, 1"; a trap request that can arise
   pub record Fault (f : Exception) : Type 0 where
-    pub cause : among (causes o) (f .cause) ≡ true
+    pub cause : among (f .cause) (causes o) ≡ true
     pub value : f .value ≡ address
     pub flag : f .flag ≡ true
     pub possible : impossible (context h) f ≡ false
 
   -- a fault with one of three causes, by the operation's kind
-  fault-by : (z x y value2 w : ℕ) → among (causes Hlv) x ≡ true → among (causes Hsv) y ≡ true → impossible (context h) (raised a (by (a .kind) z x y) value2 w) ≡ false → Fault (raised a (by (a .kind) z x y) value2 w)
+  fault-by : (z x y value2 w : ℕ) → among x (causes Hlv) ≡ true → among y (causes Hsv) ≡ true → impossible (context h) (raised a (by (a .kind) z x y) value2 w) ≡ false → Fault (raised a (by (a .kind) z x y) value2 w)
   fault-by z x y value2 w p q k = record { cause = go o; value = refl; flag = refl; possible = k }
     where
-      go : (op : Operation) → among (causes op) (by (kindOf op) z x y) ≡ true
+      go : (op : Operation) → among (by (kindOf op) z x y) (causes op) ≡ true
       go Hlv = p
       go Hlvx = p
       go Hsv = q
-
-  entry-by : (op : Operation) → among (causes op) 21 ≡ true
-  entry-by Hlv = refl
-  entry-by Hlvx = refl
-  entry-by Hsv = refl
 
   fault-of : (f : Exception) → walkFor base bytes a .end ≡ faults f → Fault f
   unfolding walkFor
@@ -92,7 +85,7 @@ module _ (h : Hart) (o : Operation) (base : ℕ) (bytes : List ℕ) (width addre
       go false e =
           every-fault Fault base (length bytes) a (fault-by 1 5 7 0 0 refl refl (can-access (context h) a (λ v. refl))) (fault-by 12 13 15 0 0 refl refl (can-page (context h) a (λ v. refl)))
           (λ on g. fault-by 20 21 23 (g .0 / 4) 0 refl refl (can-guest-page (context h) a refl g))
-          (λ on g. record { cause = entry-by o; value = refl; flag = refl; possible = can-entry (context h) a refl g }) (look base bytes) f e
+          (λ on g. fault-by 20 21 23 (g .0 / 4) 0x3000 refl refl (can-entry (context h) a refl g)) (look base bytes) f e
 
   abbrev r : Reach
   r = reach h o base bytes width address word
@@ -120,12 +113,12 @@ module _ (h : Hart) (o : Operation) (base : ℕ) (bytes : List ℕ) (width addre
       by-end p v (faults f) q e = let k : f .cause ≡ cause = cc in record { t = f; same = k; why = by-fault f p v (fault-of f q); taken = refl }
 
   -- no fault has cause 2 or 22
-  none : (op : Operation) → (among (causes op) 2 ≡ false) × (among (causes op) 22 ≡ false)
+  none : (op : Operation) → (among 2 (causes op) ≡ false) × (among 22 (causes op) ≡ false)
   none Hlv = (refl, refl)
   none Hlvx = (refl, refl)
   none Hsv = (refl, refl)
 
-  excluded : (c : ℕ) → (c ≡ 2) ⊎ (c ≡ 22) → among (causes o) c ≡ false
+  excluded : (c : ℕ) → (c ≡ 2) ⊎ (c ≡ 22) → among c (causes o) ≡ false
   excluded c (inl p) = rw p (none o .0)
   excluded c (inr p) = rw p (none o .1)
 
@@ -187,7 +180,7 @@ module _ (h : Hart) (o : Operation) (base : ℕ) (bytes : List ℕ) (width addre
       pub spv : r .hart .privilege ≡ 1 → get SPV (reg (r .hart) hstatus) ≡ 0
       pub request : trap h (told (r .hart)) .hart ≡ r .hart
 
-    pub taken-outside : among (causes o) cause ≡ true → Outside
+    pub taken-outside : among cause (causes o) ≡ true → Outside
     unfolding trap settled
     taken-outside which = go (k .t) (k .same) (k .taken) (k .why)
       where

@@ -175,9 +175,9 @@ for-vu = hypervisor 1 []
 abbrev page-fault : (privilege : ℕ) → List Write → Hart
 page-fault privilege ws = leaves Hlv (in-mode 0 privilege (vsatp ↢ 0x8000000000000006 ∷ ws)) 4 0x4000000000
 
--- HLVX for a guest whose root is at one that the second stage's refuse: 21
-abbrev entry-fault : Hart
-entry-fault = leaves Hlvx (hs (vsatp ↢ 0x8000000020000000 ∷ hgatp ↢ 0x8000000000080000 ∷ [])) 4 0x40000000
+-- one of the three for a guest whose root is at one that the second stage's refuse
+abbrev entry-fault : Operation → Hart
+entry-fault o = leaves o (hs (vsatp ↢ 0x8000000020000000 ∷ hgatp ↢ 0x8000000000080000 ∷ [])) 4 0x40000000
 
 abbrev cases : List Replay
 cases =
@@ -293,9 +293,15 @@ cases =
     -- a guest-page fault tells the guest physical address shifted right by 2, and on the way to a guest entry the word 3000
     second-value (walks (leaf rw (user x)) Hlv (for-vs [] []) 0x1008 .end) gives 0x2402 ∷
     reg (leaves Hsv (hs (hgatp ↢ 0x8000000000080000 ∷ medeleg ↢ 0x800000 ∷ [])) 4 0x20000000000) htval gives 0x8000000000 ∷
-    reg entry-fault mcause gives 21 ∷
-    reg entry-fault mtval2 gives 0x8000000002 ∷
-    reg entry-fault mtinst gives 0x3000 ∷ []
+    reg (entry-fault Hlvx) mtval2 gives 0x8000000002 ∷
+    reg (entry-fault Hlvx) mtinst gives 0x3000 ∷
+    -- there too it is "the fault of the original access" (2026-04)
+    reg (entry-fault Hlv) mcause gives 21 ∷
+    reg (entry-fault Hlvx) mcause gives 21 ∷
+    reg (entry-fault Hsv) mcause gives 23 ∷
+    reg (entry-fault Hsv) mtval gives 0x40000000 ∷
+    reg (entry-fault Hsv) mtval2 gives 0x8000000002 ∷
+    reg (entry-fault Hsv) mtinst gives 0x3000 ∷ []
 
 pub reaching : every (λ i (r : Replay). eqb (r .answer) (r .expected)) 0 cases ≡ true
 unfolding every get put legal registersPass passes deliveredM deliveredHS delivered reach load hsv refusalOf walkFor unfit within loaded stored firstRoot secondRoot run bind walkOf final last begin down inspect follow addresses.index addresses.extended addresses.small judged malformed badPointer badLeaf faulty

@@ -1,3 +1,4 @@
+pub mod Cases
 pub mod Indices
 pub mod Judgements
 pub mod Masks

@@ -15,8 +15,10 @@ use Rattle.exceptions.specs.declared.Exception.{Exception}
 use Rattle.rules.specs.declared.Need.{Need}
 use Rattle.rules.specs.declared.Judgement.{Judgement}
 use Rattle.rules.specs.declared.Judgement.the-variants.{Pointer, Leaf, Bad}
+use Rattle.rules.specs.Kind.{by}
 use Rattle.rules.specs.Address.{Stage, first, second, number, wellFormed}
 use Rattle.rules.specs.Entry.{pointer, faulty, target, judged}
+use Rattle.rules.proofs.Cases.{each-kind}
 use Rattle.rules.proofs.Judgements.{is-pointer, is-leaf}
 use Rattle.access.specs.declared.Access.{Access}
 use Rattle.access.specs.declared.Guest.{Guest}
@@ -26,11 +28,13 @@ use Rattle.access.specs.Faults.{accessFault, pageFault, entryFault, guestPageFa
 use Rattle.stages.specs.declared.Read.{Read}
 use Rattle.stages.specs.Tree.{Walk, done, ask, bind, item, Ran, listed, found, run}
 use Rattle.stages.specs.Stages.{Result, yields, faults, onward, _then_, Translation, slot, follow, inspect, down, begin, translation, guest, machine, second-of, first-of, last, final, walkOf}
-use Rattle.stages.specs.Through.{Only, Points, ownRight, entryRight, secondItem, Descent, at-leaf, by-pointer, LetThrough, stays, falls, GuestEntry, Yields, FirstResult, bare, walked, AnsweredThrough}
+use Rattle.stages.specs.Through.{Only, Points, ownRight, entryRight, secondItem, Descent, at-leaf, by-pointer, LetThrough, Leads, stays, falls, GuestEntry, Yields, FirstResult, bare, walked, AnsweredThrough}
+use Rattle.stages.specs.Denied.{at-entry, at-access, GuestPageFault}
 use Rattle.stages.proofs.Trees.{begin-off, begin-at}
 use Rattle.stages.proofs.Runs.{run-bind}
 use Rattle.stages.proofs.Offsets.{never, low-part, room, keeps-low}
 use Rattle.stages.proofs.Passed.{points, passes, own-right, entry-right}
+use Rattle.stages.proofs.Raised.{second-fault, final-fault}
 
 -- ---- a second stage that yields an address has let it through
 
@@ -170,14 +174,18 @@ module _ (a : Access) where
     only : Only second ws
     through : LetThrough (a .second) entryRight (entryAt level table) ws m 8
 
+  -- a fault that is no guest-page fault
+  abbrev Plain : Exception → Type 0
+  Plain f = (f ≡ accessFault a) ⊎ (f ≡ pageFault a)
+
   -- an end by the last entry
   abbrev End : ℕ → ℕ → Result Guest → Type 0
-  End level e (faults f) = Unit {0}
+  End level e (faults f) = Plain f
   End level e (yields g) = (pointer e ≡ false) × (g .0 ≡ target e + a .address % 2 ^ (12 + 9 * level))
 
   -- from a level and a table on, with its end: no entry, one that ends it, or a pointer and what follows
   data Part : ℕ → ℕ → List Read → Result Guest → Type 0 where
-    lost : {level table : ℕ} (ws : List Read) (f : Exception) → Only second ws → Part level table ws (faults f)
+    lost : {level table : ℕ} (ws : List Read) (f : Exception) → Only second ws → Plain f ⊎ (f ≡ entryFault a (entryAt level table)) → Part level table ws (faults f)
     ended : {level table : ℕ} (ws : List Read) (m : Machine) (e : ℕ) (o : Result Guest) → Before level table ws m → End level e o
         → Part level table (ws ++ (item 1 level m e ∷ [])) o
     pointed : {level table : ℕ} (ws : List Read) (m : Machine) (e : ℕ) (xs : List Read) (o : Result Guest) → Before level table ws m → Points level e
@@ -207,7 +215,7 @@ module _ (look : Machine → Entry) (a : Access) (on : 0 < a .second .levels) wh
 
       judge : (m : Machine) (e : ℕ) (d : Judgement) → judged (firstNeed a) level (a .address) e ≡ d → Before a level table ws m
           → Part a level table (ws ++ (item 1 level m e ∷ run look (follow (first-of a) d next) .reads)) (run look (follow (first-of a) d next) .end)
-      judge m e Bad j b = ended ws m e (faults (pageFault a)) b tt
+      judge m e Bad j b = ended ws m e (faults (pageFault a)) b (inr refl)
       judge m e (Leaf y) j b = let k = is-leaf (firstNeed a) level (a .address) e y j in ended ws m e (yields (guest y)) b (k .leaf, rw low-part at (k .to))
       judge m e (Pointer y) j b =
           let k = is-pointer (firstNeed a) level (a .address) e y j in
@@ -216,18 +224,19 @@ module _ (look : Machine → Entry) (a : Access) (on : 0 < a .second .levels) wh
       entry : (m : Machine) → LetThrough (a .second) entryRight g ws m 8 → (e : Entry)
           → let r = found e (run look (done (faults (first-of a .outside)))) (λ v. listed (item 1 level m v) (run look (follow (first-of a) (judged (firstNeed a) level (a .address) v) next))) in
           Part a level table (ws ++ r .reads) (r .end)
-      entry m l Outside = rw append-nil (lost ws (accessFault a) second-only)
+      entry m l Outside = rw append-nil (lost ws (accessFault a) second-only (inl (inl refl)))
       entry m l (Value v) = judge m v (judged (firstNeed a) level (a .address) v) refl (record { only = second-only; through = l })
 
       go : (o : Result Machine) → run look w .end ≡ o
           → let r = run look (onward (inspect (first-of a) level next) o) in
           Part a level table (ws ++ r .reads) (r .end)
-      go (faults f) e = rw append-nil (lost ws f second-only)
+      go (faults f) e =
+          rw append-nil (lost ws f second-only (second-fault (λ x. Plain a x ⊎ (x ≡ entryFault a g)) a (inl (inl refl)) entryNeed (entryFault a g) g (λ p. inr refl) look f e))
       go (yields m) e = entry m (let-through look a entryNeed (entryFault a g) g refl entryRight entry-right on 3 (omega arith) (omega arith) m e) (look m)
 
   part-down : (level table : ℕ) → table % 8 ≡ 0 → PartOf level table (run look (down (first-of a) level table))
   unfolding down run
-  part-down zero table aligned = part-visit zero table aligned (λ x. done (faults (first-of a .fault))) (λ x e. lost [] (first-of a .fault) tt)
+  part-down zero table aligned = part-visit zero table aligned (λ x. done (faults (first-of a .fault))) (λ x e. lost [] (first-of a .fault) tt (inl (inr refl)))
   part-down (suc l) table aligned = let e : suc l - 1 ≡ l = omega arith in part-visit (suc l) table aligned (down (first-of a) l) (λ y q. rw e (part-down l y q))
 
   part-begin : 0 < a .first .levels → PartOf (a .first .levels - 1) (a .first .ppn * 4096) (run look (translation (first-of a)))
@@ -236,7 +245,7 @@ module _ (look : Machine → Entry) (a : Access) (on : 0 < a .second .levels) wh
     where
       go : (b : Bool) → PartOf (a .first .levels - 1) (a .first .ppn * 4096) (run look (pick b (down (first-of a) (a .first .levels - 1) (a .first .ppn * 4096)) (done (faults (first-of a .fault)))))
       go true = part-down (a .first .levels - 1) (a .first .ppn * 4096) (omega arith)
-      go false = lost [] (first-of a .fault) tt
+      go false = lost [] (first-of a .fault) tt (inl (inr refl))
 
 -- ---- where an entry of the first stage stands
 
@@ -294,7 +303,7 @@ module _ (a : Access) where
     only-second-stage xs earlier h e = not-both (x .stage) (in-only second earlier x later (rw e at h)) one
 
     by-place : {level table : ℕ} {xs : List Read} {o : Result Guest} → Part a level table xs o → (earlier : List Read) → xs ++ zs ≡ earlier ++ (x ∷ later) → EntryFrom level table earlier x
-    by-place (lost ws f h) earlier e = only-second-stage (ws ++ zs) earlier (only-append second ws zs h rest) e
+    by-place (lost ws f h w) earlier e = only-second-stage (ws ++ zs) earlier (only-append second ws zs h rest) e
     by-place (ended ws m v o b h) earlier e = here-or-later ws m v [] earlier b (λ es q. only-second-stage zs es rest q) e
     by-place (pointed ws m v xs o b p r) earlier e = here-or-later ws m v xs earlier b (λ es q. later-entry ws m v es x (b .only) p (by-place r es q)) e
 
@@ -322,9 +331,26 @@ module _ (a : Access) where
       record { earlier = ws; leaf = item 1 level m e; t = table; split = refl; way = stays ws only; stage = refl; ends = h .0; yielded = rw (← same) (h .1) }
 
   part-yields : {level table : ℕ} {xs : List Read} {o : Result Guest} → Part a level table xs o → (g : Guest) → o ≡ yields g → Yields (a .address) level table xs g
-  part-yields (lost ws f h) g q = never f g q
+  part-yields (lost ws f h w) g q = never f g q
   part-yields (ended ws m e o b h) g q = leaf-yield ws m e o g (b .only) h q
   part-yields (pointed ws m e xs o b p r) g q = later-yield ws m e xs g (b .only) p (part-yields r g q)
+
+  -- ---- where the first stage met a guest-page fault
+
+  -- on the way to the entry at a level and a table, to which it has come
+  record Toward (level table : ℕ) (xs : List Read) (f : Exception) : Type 0 where
+    at : ℕ
+    t : ℕ
+    way : Leads level table xs at t
+    same : f ≡ entryFault a (entryAt a at t)
+
+  part-faults : {level table : ℕ} {xs : List Read} {o : Result Guest} → Part a level table xs o → (f : Exception) → o ≡ faults f → Plain a f ⊎ Toward level table xs f
+  part-faults {level} {table} (lost ws x h w) f q =
+      let k : x ≡ f = cc in subst (λ (y : Exception). Plain a y ⊎ Toward level table ws y) k (⊎-elim inl (λ e. inr (record { at = level; t = table; way = stays ws h; same = e })) w)
+  part-faults (ended ws m e (yields g) b h) f q = never f g (sym q)
+  part-faults (ended ws m e (faults x) b h) f q = let k : x ≡ f = cc in inl (subst (Plain a) k h)
+  part-faults {level} (pointed ws m e xs o b p r) f q =
+      ⊎-elim inl (λ k. inr (record { at = k .at; t = k .t; way = falls ws (item 1 level m e) xs (b .only) refl p (k .way); same = k .same })) (part-faults r f q)
 
 -- ---- demand 3 of the walk: an access of 2 ^ k bytes, aligned, with the second stage on
 
@@ -372,18 +398,24 @@ module _ (look : Machine → Entry) (base len : ℕ) (a : Access) (on : 0 < a .s
     entries : (zs : List Read) → Only second zs → (earlier : List Read) (x : Read) (later : List Read) → x .stage ≡ 1 → r .reads ++ zs ≡ earlier ++ (x ∷ later)
         → EntryFrom a (a .first .levels - 1) (a .first .ppn * 4096) earlier x
     result : (g : Guest) → r .end ≡ yields g → FirstResult (a .first) (a .address) (r .reads) g
+    fault : (f : Exception) → r .end ≡ faults f → Plain a f ⊎ ((0 < a .first .levels) × Toward a (a .first .levels - 1) (a .first .ppn * 4096) (r .reads) f)
 
   first-off : a .first .levels ≡ 0 → First (run look firstWalk)
   unfolding run
   first-off off =
       rw (begin-off (first-of a) (a .first .levels) off)
-      (record { entries = λ zs h earlier x later one e. only-second-stage a zs h x later one zs earlier h e; result = λ g e. bare off refl (let q : guest (a .address) ≡ g = cc in rw (← q) refl) })
+      (record {
+        entries = λ zs h earlier x later one e. only-second-stage a zs h x later one zs earlier h e;
+        result = λ g e. bare off refl (let q : guest (a .address) ≡ g = cc in rw (← q) refl);
+        fault = λ f e. never f (guest (a .address)) (sym e);
+      })
 
   first-on : 0 < a .first .levels → First (run look firstWalk)
   first-on p =
       record {
         entries = λ zs h earlier x later one e. by-place a zs h x later one (part-begin look a on p) earlier e;
         result = λ g e. walked p (part-yields a (part-begin look a on p) g e);
+        fault = λ f e. ⊎-elim inl (λ k. inr (p, k)) (part-faults a (part-begin look a on p) f e);
       }
 
   first-part : First (run look firstWalk)
@@ -392,6 +424,9 @@ module _ (look : Machine → Entry) (base len : ℕ) (a : Access) (on : 0 < a .s
       go : (b : Bool) → eqb (a .first .levels) 0 ≡ b → First (run look firstWalk)
       go true e = first-off (eqb-true (a .first .levels) 0 e)
       go false e = first-on (omega (arith, eqb-false (a .first .levels) 0 e))
+
+  final-part : (g : Guest) → run look firstWalk .end ≡ yields g → Final g (run look (final base len a g) .reads) (run look (final base len a g) .end)
+  final-part g e = let kept = keeps-low look (first-of a) k small g e in final-through g (ap (λ (x : Guest). x .0 % 2 ^ k) (kept .same) ∙ kept .low ∙ aligned)
 
   pub guarded : Guarded (run look (walkOf base len a) .reads) (run look (walkOf base len a) .end)
   unfolding walkOf run
@@ -403,8 +438,7 @@ module _ (look : Machine → Entry) (base len : ℕ) (a : Access) (on : 0 < a .s
       go : (o : Result Guest) → run look firstWalk .end ≡ o → Guarded (ws ++ run look (onward (final base len a) o) .reads) (run look (onward (final base len a) o) .end)
       go (faults f) e = record { entries = first-part .entries [] tt; answer = λ m e. never f m e }
       go (yields g) e =
-          let kept = keeps-low look (first-of a) k small g e in
-          let last = final-through g (ap (λ (x : Guest). x .0 % 2 ^ k) (kept .same) ∙ kept .low ∙ aligned) in
+          let last = final-part g e in
           record {
             entries = first-part .entries (run look (final base len a g) .reads) (last .only);
             answer = λ m q. record {
@@ -413,3 +447,32 @@ module _ (look : Machine → Entry) (base len : ℕ) (a : Access) (on : 0 < a .s
               first = first-part .result g e;
             };
           }
+
+  -- a guest-page fault is of the guest entry that the first stage had come to, or of the access itself
+  pub guest-page-fault : (f : Exception) → run look (walkOf base len a) .end ≡ faults f → 20 ≤ f .cause → GuestPageFault (a .first) (a .kind) (a .address) (a .v) (run look (walkOf base len a) .reads) f
+  unfolding walkOf run
+  guest-page-fault f = rw (run-bind look firstWalk (onward (final base len a))) (go (run look firstWalk .end) refl)
+    where
+      ws : List Read
+      ws = run look firstWalk .reads
+
+      Told : List Read → Type 0
+      Told xs = GuestPageFault (a .first) (a .kind) (a .address) (a .v) xs f
+
+      -- an access or page fault has another cause
+      other : {P : Type 0} → Plain a f → 20 ≤ f .cause → P
+      other (inl e) c = let l : f .cause < 20 = rw e (each-kind (λ k. by k 1 5 7 < 20) (omega arith) (omega arith) (omega arith) (a .kind)) in absurd (omega (arith, c, l))
+      other (inr e) c = let l : f .cause < 20 = rw e (each-kind (λ k. by k 12 13 15 < 20) (omega arith) (omega arith) (omega arith) (a .kind)) in absurd (omega (arith, c, l))
+
+      at-an-entry : Plain a f ⊎ ((0 < a .first .levels) × Toward a (a .first .levels - 1) (a .first .ppn * 4096) ws f) → 20 ≤ f .cause → Told ws
+      at-an-entry (inl p) c = other p c
+      at-an-entry (inr (p, k)) c = rw (k .same) (record { guest = entryAt a (k .at) (k .t) .0; denied = at-entry (k .at) (k .t) p (k .way); cause = refl; value = refl; value2 = refl; flag = refl })
+
+      at-the-access : (g : Guest) → run look firstWalk .end ≡ yields g → (f ≡ accessFault a) ⊎ (f ≡ guestPageFault a g) → 20 ≤ f .cause → Told (ws ++ run look (final base len a g) .reads)
+      at-the-access g e (inl p) c = other (inl p) c
+      at-the-access g e (inr p) c =
+          rw p (record { guest = g .0; denied = at-access ws (run look (final base len a g) .reads) g refl (final-part g e .only) (first-part .result g e); cause = refl; value = refl; value2 = refl; flag = refl })
+
+      go : (o : Result Guest) → run look firstWalk .end ≡ o → run look (onward (final base len a) o) .end ≡ faults f → 20 ≤ f .cause → Told (ws ++ run look (onward (final base len a) o) .reads)
+      go (faults x) e q = let k : x ≡ f = cc in rw append-nil (at-an-entry (first-part .fault f (e ∙ ap faults k)))
+      go (yields g) e q = at-the-access g e (final-fault (λ x. (x ≡ accessFault a) ⊎ (x ≡ guestPageFault a g)) base len a (inl refl) g (λ p. inr refl) look f q)

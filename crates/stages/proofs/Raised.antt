@@ -71,23 +71,33 @@ module _ (P : Exception → Type 0) where
         go true f = raises-down f l (t .tables .ppn * 4096)
         go false f = f
 
-  -- what holds of the five faults holds of every fault of a walk
-  module _ (base len : ℕ) (a : Access) (access : P (accessFault a)) (page : P (pageFault a)) (guest-page : 0 < a .second .levels → (g : Guest) → P (guestPageFault a g))
-      (entry : 0 < a .second .levels → (g : Guest) → P (entryFault a g)) where
+  -- what holds of an access fault and of the second stage's own, where it is on, holds of every fault of the second stage
+  module _ (a : Access) (access : P (accessFault a)) where
     raises-second : (n : Need) (f : Exception) (g : Guest) → (0 < a .second .levels → P f) → Raises (translation (second-of a n f g))
     raises-second n f g h = raises-begin (second-of a n f g) access (λ x. tt) (a .second .levels) h
 
-    raises-final : (g : Guest) → Raises (final base len a g)
+    pub second-fault : (n : Need) (f : Exception) (g : Guest) → (0 < a .second .levels → P f) → (look : Machine → Entry) (x : Exception)
+        → run look (translation (second-of a n f g)) .end ≡ faults x → P x
+    second-fault n f g h look = raises-run look (translation (second-of a n f g)) (raises-second n f g h)
+
+  -- and of every fault of the access itself
+  module _ (base len : ℕ) (a : Access) (access : P (accessFault a)) where
+    raises-final : (g : Guest) → (0 < a .second .levels → P (guestPageFault a g)) → Raises (final base len a g)
     unfolding final last
-    raises-final g = raises-then (translation (second-of a (secondNeed a) (guestPageFault a g) g)) _ (raises-second (secondNeed a) (guestPageFault a g) g (λ on. guest-page on g)) (λ m. ends m (within base len (m .0) (a .width)))
+    raises-final g guest-page = raises-then (translation (second-of a (secondNeed a) (guestPageFault a g) g)) _ (raises-second a access (secondNeed a) (guestPageFault a g) g guest-page) (λ m. ends m (within base len (m .0) (a .width)))
       where
         ends : (m : Machine) (b : Bool) → Raises (done (pick b (yields m) (faults (accessFault a))))
         ends m true = tt
         ends m false = access
 
-    pub every-fault : (look : Machine → Entry) (f : Exception) → run look (walkOf base len a) .end ≡ faults f → P f
+    pub final-fault : (g : Guest) → (0 < a .second .levels → P (guestPageFault a g)) → (look : Machine → Entry) (x : Exception) → run look (final base len a g) .end ≡ faults x → P x
+    final-fault g guest-page look = raises-run look (final base len a g) (raises-final g guest-page)
+
+    -- what holds of the five faults holds of every fault of a walk
+    pub every-fault : P (pageFault a) → (0 < a .second .levels → (g : Guest) → P (guestPageFault a g)) → (0 < a .second .levels → (g : Guest) → P (entryFault a g))
+        → (look : Machine → Entry) (f : Exception) → run look (walkOf base len a) .end ≡ faults f → P f
     unfolding walkOf
-    every-fault look =
+    every-fault page guest-page entry look =
         raises-run look (walkOf base len a)
         (raises-then (translation (first-of a)) (final base len a)
-        (raises-begin (first-of a) access (λ x. raises-second entryNeed (entryFault a (guest x)) (guest x) (λ on. entry on (guest x))) (a .first .levels) (λ on. page)) raises-final)
+        (raises-begin (first-of a) access (λ x. raises-second a access entryNeed (entryFault a (guest x)) (guest x) (λ on. entry on (guest x))) (a .first .levels) (λ on. page)) (λ g. raises-final g (λ on. guest-page on g)))

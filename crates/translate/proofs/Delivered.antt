@@ -16,8 +16,8 @@ use Rattle.hart.specs.Hart.{context, paging, passes}
 use Rattle.hart.specs.Event.{trapped, settled}
 use Rattle.hart.specs.Trap.{trap}
 use Rattle.rules.specs.declared.Kind.{Kind}
-use Rattle.rules.specs.declared.Kind.the-variants.{Fetch, Load, Store}
 use Rattle.rules.specs.Kind.{by}
+use Rattle.rules.proofs.Cases.{each-kind}
 use Rattle.access.specs.declared.Access.{Access}
 use Rattle.access.specs.declared.Guest.{Guest}
 use Rattle.access.specs.declared.Machine.{Machine}
@@ -44,9 +44,7 @@ module _ (c : Context) (a : Access) where
   -- whether a fault of the access with one of three causes can arise goes by each
   by-cause : (x y z value2 word : ℕ) → impossible c (raised a x value2 word) ≡ false → impossible c (raised a y value2 word) ≡ false → impossible c (raised a z value2 word) ≡ false
       → (k : Kind) → impossible c (raised a (by k x y z) value2 word) ≡ false
-  by-cause x y z value2 word fetch load store Fetch = fetch
-  by-cause x y z value2 word fetch load store Load = load
-  by-cause x y z value2 word fetch load store Store = store
+  by-cause x y z value2 word = each-kind (λ k. impossible c (raised a (by k x y z) value2 word) ≡ false)
 
   module _ (guest-v : eqb (c .v) 1 ≡ true → a .v ≡ true) where
     fits : (a .v && false || (not (a .v) && false || not (a .v) && (eqb (c .v) 1 && true))) ≡ false
@@ -69,7 +67,7 @@ module _ (c : Context) (a : Access) where
     can-guest-page g = by-cause 20 21 23 (g .0 / 4) 0 guest-fits guest-fits guest-fits (a .kind)
 
     pub can-entry : (g : Guest) → impossible c (entryFault a g) ≡ false
-    can-entry g = guest-fits
+    can-entry g = by-cause 20 21 23 (g .0 / 4) 0x3000 guest-fits guest-fits guest-fits (a .kind)
 
 module _ (h : Hart) (kind : Kind) (address width : ℕ) where
   abbrev a : Access

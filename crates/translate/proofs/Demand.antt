@@ -46,7 +46,7 @@ use Rattle.translate.proofs.Cases.{ranOf, AtOnce, refused, misaligned-b
 abbrev pub listed : Translated → List Read
 listed t = take (t .count) (t .reads)
 
-listed-walk : (h : Hart) (r : Ran (Result Machine)) → listed (walkedTo h r) ≡ r .reads
+pub listed-walk : (h : Hart) (r : Ran (Result Machine)) → listed (walkedTo h r) ≡ r .reads
 listed-walk h r = take-append-seam (r .reads) (unused (places - length (r .reads)))
 
 -- no item is of the empty list

@@ -3,3 +3,4 @@ pub mod On
 pub mod Cases
 pub mod Demand
 pub mod Delivered
+pub mod Faults

@@ -43,7 +43,7 @@ module _ (h : Hart) (kind : Kind) (address width : ℕ) where
       go false e = refl
 
   module _ (on : secondOn h kind ≡ true) where
-    virtual : effective (context h) kind .v ≡ true
+    pub virtual : effective (context h) kind .v ≡ true
     virtual = and-left (effective (context h) kind .v) _ on
 
     -- "V=1 walks vsatp, then hgatp"

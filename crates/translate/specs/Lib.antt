@@ -1,2 +1,3 @@
 pub mod Translated
 pub mod On
+pub mod Causes

@@ -72,8 +72,8 @@ impl fmt::Display for Outcome {
 
 const PAGE: Outcome = Outcome::Fault([12, 13, 15], 0);
 const GUEST_PAGE: Outcome = Outcome::Fault([20, 21, 23], 0);
-/// A guest-page fault for an entry of the first stage, which is loaded.
-const ENTRY: Outcome = Outcome::Fault([21; 3], 0x3000);
+/// A guest-page fault for an entry of the first stage.
+const ENTRY: Outcome = Outcome::Fault([20, 21, 23], 0x3000);
 /// A misaligned load, in the cases where all accesses are loads.
 const MISALIGNED: Outcome = Outcome::Fault([4; 3], 0);
 

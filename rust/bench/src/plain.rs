@@ -178,7 +178,7 @@ pub fn translate(hart: &HartWords, image: Image<'_>, access: Access, out: &mut T
         Ok(machine) => Answer::Address(machine),
         Err(End::Outside) => fault(by(kind, 1, 5, 7), 0, 0),
         Err(End::Page) => fault(by(kind, 12, 13, 15), 0, 0),
-        Err(End::Entry(guest)) => fault(21, guest >> 2, READ_OF_ENTRY),
+        Err(End::Entry(guest)) => fault(by(kind, 20, 21, 23), guest >> 2, READ_OF_ENTRY),
         Err(End::Guest(guest)) => fault(by(kind, 20, 21, 23), guest >> 2, 0),
     };
     let count = walk.count;

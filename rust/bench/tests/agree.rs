@@ -60,7 +60,7 @@ fn the_faults_are_those_that_are_meant() {
     let meant = [
         (3, [12, 13, 15], 0, not_user(Part::Satp)),
         (3, [20, 21, 23], 0, not_user(Part::HgatpForAccess)),
-        (7, [21, 21, 21], 0x3000, not_user(Part::HgatpForEntry)),
+        (7, [20, 21, 23], 0x3000, not_user(Part::HgatpForEntry)),
         (12, [12, 13, 15], 0, not_user(Part::Vsatp)),
         (0, [12, 13, 15], 0, Some((Rule::HighBits, Part::Satp, None))),
         (0, [4; 3], 0, Some((Rule::Misaligned, Part::Access, None))),

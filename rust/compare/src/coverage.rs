@@ -17,7 +17,7 @@ use second::hart::{Hart, Mode};
 use second::hypervisor::Operation;
 use second::registers::{find, Row, ROWS};
 use second::script::{Answer, Instruction, Line, Session};
-use second::trap::{Ending, Target};
+use second::trap::{Ending, Target, Trap};
 use second::walk::{self, translate, Key, Kind, Part, Rule};
 
 use crate::coverage::bits::Bits;
@@ -57,6 +57,9 @@ pub const CAUSES: [u64; 19] = [
     0, 1, 2, 3, 4, 5, 6, 7, 8, 9, 10, 11, 12, 13, 15, 20, 21, 22, 23,
 ];
 
+/// The causes of guest-page faults.
+const GUEST_PAGE_CAUSES: [u64; 3] = [20, 21, 23];
+
 /// The causes that a translation can answer.
 const FAULT_CAUSES: [u64; 11] = [1, 4, 5, 6, 7, 12, 13, 15, 20, 21, 23];
 
@@ -68,6 +71,9 @@ pub enum Meeting {
     /// Another event.
     Event,
 }
+
+/// A translation, by its word, and the rule that ended it.
+type Ended = (&'static str, Key);
 
 /// One bit of a hart that passes check 2 flipped: the mode of that hart, what met it, the word and the bit.
 pub type Flip = (Mode, Meeting, usize, u32);
@@ -97,10 +103,14 @@ pub struct Coverage {
     pub words: BTreeMap<&'static str, u64>,
     /// Events (without `show`).
     pub events: u64,
-    /// Rules that ended a walk.
-    pub rules: BTreeMap<Key, u64>,
+    /// Rules that ended a walk, by the word of the translation.
+    pub rules: BTreeMap<Ended, u64>,
     /// Traps delivered, by cause and target.
     pub delivered: BTreeMap<(u64, Target), u64>,
+    /// Of these, the faults of translations on the way to a guest entry.
+    pub of_entries: BTreeMap<(u64, Target), u64>,
+    /// The fault of the translation before, if it was one of these.
+    entry_fault: Option<Trap>,
     /// Instructions, by word and mode.
     pub instructions: BTreeMap<(&'static str, Mode), u64>,
     /// Accesses to listed registers, by number and mode.
@@ -239,6 +249,7 @@ impl Coverage {
         if word != "show" {
             self.events += 1;
         }
+        let entry_fault = self.entry_fault.take();
         match answer {
             Answer::Nothing | Answer::Hart(_) => {}
             Answer::Translation(translation) => {
@@ -248,11 +259,21 @@ impl Coverage {
                     count(&mut self.translations, mode);
                 }
                 if let Some(why) = translation.why {
-                    count(&mut self.rules, why.key());
+                    count(&mut self.rules, (word, why.key()));
+                    if let walk::Answer::Fault(trap) = translation.answer {
+                        self.entry_fault = of_entry(&why.key()).then_some(trap);
+                    }
                 }
             }
             Answer::Register(accessed) => self.note_ending(word, before, &accessed.outcome.ending),
-            Answer::Event(outcome) => self.note_ending(word, before, &outcome.ending),
+            Answer::Event(outcome) => {
+                self.note_ending(word, before, &outcome.ending);
+                if let (Line::Trap(trap), Ending::Trapped(_, target)) = (line, outcome.ending) {
+                    if entry_fault == Some(*trap) {
+                        count(&mut self.of_entries, (trap.cause, target));
+                    }
+                }
+            }
             Answer::Guest(reached) => self.note_ending(word, before, &reached.outcome.ending),
         }
         if let Some(mode) = before.checked_mode() {
@@ -372,6 +393,7 @@ impl Coverage {
         self.events += other.events;
         add(&mut self.rules, &other.rules);
         add(&mut self.delivered, &other.delivered);
+        add(&mut self.of_entries, &other.of_entries);
         add(&mut self.instructions, &other.instructions);
         add(&mut self.registers, &other.registers);
         add(&mut self.translations, &other.translations);
@@ -446,9 +468,18 @@ impl Coverage {
                 }
             }
         }
-        for why in reachable_rules() {
-            if !self.rules.contains_key(&why) {
-                missing.push(format!("the rule {}", describe(&why)));
+        for key in ending_rules() {
+            if !self.rules.contains_key(&key) {
+                missing.push(format!("the rule {}", describe(&key)));
+            }
+        }
+        for cause in GUEST_PAGE_CAUSES {
+            for target in targets_of(cause) {
+                if !self.of_entries.contains_key(&(cause, target)) {
+                    missing.push(format!(
+                        "cause {cause} of a guest entry delivered to {target:?}"
+                    ));
+                }
             }
         }
         for mode in Mode::ALL {
@@ -520,6 +551,13 @@ impl Coverage {
                 to(Target::Vs)
             );
         }
+        text.push_str(
+            "\nof these, faults of translations on the way to a guest entry (to M / HS):",
+        );
+        for cause in GUEST_PAGE_CAUSES {
+            let to = |target| self.of_entries.get(&(cause, target)).unwrap_or(&0);
+            let _ = write!(text, " {cause}: {}/{}", to(Target::M), to(Target::Hs));
+        }
         text.push_str("\ntranslations by mode:");
         for (mode, number) in &self.translations {
             let _ = write!(text, " {mode:?} {number}");
@@ -567,27 +605,27 @@ impl Coverage {
     }
 
     fn table_of_rules(&self, text: &mut String) {
-        let all = reachable_rules();
+        let all = ending_rules();
         let reached = all
             .iter()
-            .filter(|why| self.rules.contains_key(why))
+            .filter(|key| self.rules.contains_key(key))
             .count();
         let _ = writeln!(
             text,
-            "fault rules by part and level: {reached} of {} reached; the rarest:",
+            "fault rules by event, part and level: {reached} of {} reached; the rarest:",
             all.len()
         );
-        let mut counts: Vec<(u64, &Key)> = self
+        let mut counts: Vec<(u64, &Ended)> = self
             .rules
             .iter()
-            .map(|(why, number)| (*number, why))
+            .map(|(key, number)| (*number, key))
             .collect();
         counts.sort();
-        for (number, why) in counts.iter().take(8) {
-            let _ = writeln!(text, "  {} {number}", describe(why));
+        for (number, key) in counts.iter().take(8) {
+            let _ = writeln!(text, "  {} {number}", describe(key));
         }
         let mut by_rule: BTreeMap<Rule, u64> = BTreeMap::new();
-        for ((rule, ..), number) in &self.rules {
+        for ((_, (rule, ..)), number) in &self.rules {
             *by_rule.entry(*rule).or_insert(0) += number;
         }
         text.push_str("fault rules:");
@@ -690,17 +728,46 @@ fn entry_rules(part: Part, level: u64) -> Vec<Rule> {
     rules
 }
 
-/// A rule and its place, for people.
-pub fn describe((rule, part, level): &Key) -> String {
+/// Whether it is a guest-page fault on the way to a guest entry.
+fn of_entry((rule, part, _): &Key) -> bool {
+    *part == Part::HgatpForEntry && *rule != Rule::EntryOutside
+}
+
+/// Whether a rule can end this event's walk.
+fn ends(event: &str, (rule, part, _): &Key) -> bool {
+    match rule {
+        Rule::Misaligned | Rule::SupervisorNeedsSum => event != "fetch",
+        Rule::NotDirty | Rule::NotWritable => matches!(event, "store" | "hsv"),
+        Rule::NotReadable => *part == Part::HgatpForEntry || matches!(event, "load" | "hlv"),
+        Rule::NotExecutable | Rule::SupervisorFetch => event == "fetch",
+        Rule::NotExecutableForHlvx => event == "hlvx",
+        _ => true,
+    }
+}
+
+/// Every rule that can end a fetch, a load and a store.
+fn ending_rules() -> Vec<Ended> {
+    let of_event = |event| {
+        let rules = reachable_rules().into_iter();
+        rules.map(move |key| (event, key))
+    };
+    let all = ["fetch", "load", "store"].into_iter().flat_map(of_event);
+    all.filter(|(event, key)| ends(event, key)).collect()
+}
+
+/// A rule, its place and the event that it ended, for people.
+fn describe((event, (rule, part, level)): &Ended) -> String {
     match level {
-        Some(level) => format!("{rule:?} at level {level} of {part:?}"),
-        None => format!("{rule:?} of {part:?}"),
+        Some(level) => format!("{rule:?} at level {level} of {part:?}, by {event}"),
+        None => format!("{rule:?} of {part:?}, by {event}"),
     }
 }
 
 #[cfg(test)]
 mod tests {
     use super::*;
+    use second::script::parse;
+    use std::path::PathBuf;
 
     #[test]
     fn outputs_are_counted() {
@@ -771,6 +838,8 @@ mod tests {
             "refusal 4",
             "a list of 15 reads",
             "cause 23 delivered to M",
+            "cause 20 of a guest entry delivered to Hs",
+            "the rule NotReadable at level 1 of HgatpForEntry, by fetch",
             "the event word wfi",
             "the event word interrupt",
             "a refused interrupt",
@@ -818,9 +887,29 @@ mod tests {
         assert_eq!(coverage.flips, BTreeMap::from(flips));
     }
 
+    /// A guest-page fault on the way to a guest entry counts as delivered by the trap request behind it alone.
+    #[test]
+    fn the_fault_of_a_guest_entry_is_counted_by_its_cause_and_target() {
+        let mut coverage = Coverage::default();
+        let mut session = Session::new(PathBuf::new());
+        let scene = "hart 1 1 0;reg 280 8000000020000000;reg 680 8000000000000000;reg 302 800000";
+        let fault = "trap 17 0 8000000000 3000 1";
+        let script = format!("{scene};store 0 8;{fault};hart 1 1 0;{fault}");
+        for line in script.split(';') {
+            let line = parse(line.as_bytes()).unwrap().unwrap();
+            let before = Before::of(&session, &line);
+            let answer = session.perform(&line).unwrap();
+            coverage.note(&line, &before, &answer);
+        }
+        let key = (Rule::HighBits, Part::HgatpForEntry, None);
+        assert_eq!(coverage.rules, BTreeMap::from([(("store", key), 1)]));
+        let delivered = BTreeMap::from([((23, Target::Hs), 1)]);
+        assert_eq!(coverage.of_entries, delivered);
+    }
+
     #[test]
     fn rules_are_each_named_once() {
-        let mut rules = reachable_rules();
+        let mut rules = ending_rules();
         let length = rules.len();
         rules.sort();
         rules.dedup();

@@ -60,9 +60,9 @@ fn compare_in(
     }
 }
 
-/// Checks that an altered copy is caught within 20,000 events, by a script of at most `lines` lines none of which can go.
+/// Checks that an altered copy is caught within 50,000 events, by a script of at most `lines` lines none of which can go.
 fn caught(perform: Perform, lines: usize) -> Difference {
-    let difference = find(perform, 20_000).expect("the altered copy is caught");
+    let difference = find(perform, 50_000).expect("the altered copy is caught");
     assert!(
         difference.script.lines.len() <= lines,
         "not small enough: {difference}"
@@ -274,20 +274,34 @@ fn a_copy_whose_hart_stays_as_it_is() {
     caught(stays, 3);
 }
 
-#[test]
-fn a_copy_that_forgets_the_word_of_a_guest_entrys_fault() {
-    fn no_word(session: &mut Session, line: &Line) -> Result<Answer, Bad> {
-        let answer = session.perform(line)?;
-        if let Answer::Translation(mut translation) = answer.clone() {
-            if let walk::Answer::Fault(mut trap) = translation.answer {
-                trap.word = 0;
-                translation.answer = walk::Answer::Fault(trap);
-                return Ok(Answer::Translation(translation));
+/// The model with the fault of a translation on the way to a guest entry changed.
+fn with_entry_fault(
+    session: &mut Session,
+    line: &Line,
+    change: fn(&mut Trap),
+) -> Result<Answer, Bad> {
+    let mut answer = session.perform(line)?;
+    if let Answer::Translation(translation) = &mut answer {
+        if let walk::Answer::Fault(trap) = &mut translation.answer {
+            if trap.word == 0x3000 {
+                change(trap);
             }
         }
-        Ok(answer)
     }
-    caught(no_word, 16);
+    Ok(answer)
+}
+
+/// "The manual raises the fault of the original access": always a load's, always a store's; and without the word.
+#[test]
+fn copies_with_a_slip_in_the_fault_of_a_guest_entry() {
+    let slips: [Perform; 3] = [
+        |session, line| with_entry_fault(session, line, |trap| trap.cause = 21),
+        |session, line| with_entry_fault(session, line, |trap| trap.cause = 23),
+        |session, line| with_entry_fault(session, line, |trap| trap.word = 0),
+    ];
+    for slip in slips {
+        caught(slip, 16);
+    }
 }
 
 #[test]
@@ -1305,7 +1319,7 @@ fn guest_fault_with(
 fn guest_cause_with(
     session: &mut Session,
     line: &Line,
-    other: fn(&GuestAccess, u64) -> u64,
+    other: fn(&GuestAccess, &Trap) -> u64,
 ) -> Result<Answer, Bad> {
     let before = session.hart;
     let answer = session.perform(line)?;
@@ -1313,7 +1327,7 @@ fn guest_cause_with(
         (line, &answer, before.checked_mode())
     {
         if let Ending::Trapped(trap, _) = reached.outcome.ending {
-            let cause = other(access, trap.cause);
+            let cause = other(access, &trap);
             session.hart = deliver(&before, mode, &Trap { cause, ..trap }).0;
         }
     }
@@ -1592,13 +1606,13 @@ const GUEST_SLIPS: [(&str, Perform); 52] = [
         guest_with_hart(session, line, |hart, _| hart.hstatus |= 1 << HU)
     }),
     ("2 for 22", |session, line| {
-        guest_cause_with(session, line, |_, cause| match cause {
+        guest_cause_with(session, line, |_, trap| match trap.cause {
             22 => 2,
             other => other,
         })
     }),
     ("22 for 2", |session, line| {
-        guest_cause_with(session, line, |_, cause| match cause {
+        guest_cause_with(session, line, |_, trap| match trap.cause {
             2 => 22,
             other => other,
         })
@@ -1710,15 +1724,15 @@ const GUEST_SLIPS: [(&str, Perform); 52] = [
             }
         })
     }),
-    ("23 for a guest entry of HSV", |session, line| {
-        guest_cause_with(session, line, |access, cause| match cause {
-            21 if stores(access) => 23,
+    ("21 for a guest entry of HSV", |session, line| {
+        guest_cause_with(session, line, |_, trap| match trap.cause {
+            23 if trap.word == 0x3000 => 21,
             other => other,
         })
     }),
     ("the faults of a fetch for HLVX", |session, line| {
-        guest_cause_with(session, line, |access, cause| match cause {
-            5 | 13 | 21 if access.operation == Operation::LoadExecutable => match cause {
+        guest_cause_with(session, line, |access, trap| match trap.cause {
+            5 | 13 | 21 if access.operation == Operation::LoadExecutable => match trap.cause {
                 5 => 1,
                 13 => 12,
                 _ => 20,

@@ -78,7 +78,7 @@ impl Explainer {
         translation: &Translation,
     ) -> Explanation {
         let answer = translation.answer();
-        let ending = self.ending(answer, access.kind);
+        let ending = self.ending(answer);
         if let Answer::Refused(number) = answer {
             return Explanation {
                 lines: vec![refused_access(access), ending],
@@ -121,7 +121,7 @@ impl Explainer {
             }
             Err(_) => {
                 let fault = guest::fault(happened.after);
-                self.paint.bad(&fault_words(fault, view.access.kind))
+                self.paint.bad(&fault_words(fault))
             }
         };
         let lines = self.walk(&view, &walk, ending);
@@ -140,13 +140,13 @@ impl Explainer {
     }
 
     /// How a translation ended.
-    fn ending(&self, answer: Answer, kind: Kind) -> String {
+    fn ending(&self, answer: Answer) -> String {
         match answer {
             Answer::Address(address) => self
                 .paint
                 .good(&format!("it reaches machine address {address:x}")),
             Answer::Refused(number) => self.paint.bad(&refusal(number)),
-            Answer::Fault(fault) => self.paint.bad(&fault_words(fault, kind)),
+            Answer::Fault(fault) => self.paint.bad(&fault_words(fault)),
         }
     }
 }
@@ -190,7 +190,7 @@ fn refused_access(access: Access) -> String {
 }
 
 /// A fault by its name, and what its second value and word say.
-fn fault_words(fault: Fault, kind: Kind) -> String {
+fn fault_words(fault: Fault) -> String {
     let mut words = format!(
         "{}: value {:x}",
         names::titled_cause(fault.cause),
@@ -203,12 +203,7 @@ fn fault_words(fault: Fault, kind: Kind) -> String {
         );
     }
     if fault.word == GUEST_ENTRY {
-        words += &format!(", word {GUEST_ENTRY:x} (the hart's own read of a guest entry");
-        words += match kind {
-            Kind::Fetch => "; the manual has 14 for a fetch)",
-            Kind::Load => ")",
-            Kind::Store => "; the manual has 17 for a store)",
-        };
+        words += &format!(", word {GUEST_ENTRY:x} (the hart's own read of a guest entry)");
     }
     words
 }

@@ -693,11 +693,11 @@ fn a_hypervisor_load_that_faults_says_why_and_where_it_went() {
     assert_eq!(
         without_entries(&format!("{in_machine_mode}hsv 4 40005008 0 0\n")),
         [
-            "HSV in M at 1000: load guest-page fault (15) goes to M at 0",
+            "HSV in M at 1000: store guest-page fault (17) goes to M at 0",
             "store of 4 bytes at 40005008 as VS, by SPVP; both stages are on",
-            "load guest-page fault (15): value 40005008, second value 50001002 (a guest physical address, shifted right by 2), word 3000 (the hart's own read of a guest entry; the manual has 17 for a store)",
+            "store guest-page fault (17): value 40005008, second value 50001002 (a guest physical address, shifted right by 2), word 3000 (the hart's own read of a guest entry)",
             "to M: a trap from M stays there",
-            "it wrote mstatus MPV 0, MPP 3, MPIE 0, MIE 0, GVA 1; mepc 1000; mcause 15; mtval 40005008; mtval2 50001002; mtinst 3000",
+            "it wrote mstatus MPV 0, MPP 3, MPIE 0, MIE 0, GVA 1; mepc 1000; mcause 17; mtval 40005008; mtval2 50001002; mtinst 3000",
             "why: second stage for the guest entry at 140004008, level 2: the second stage needs U",
         ]
     );

@@ -267,7 +267,7 @@ const MUTANTS: &[Mutant] = &[
     Mutant("guest.rs", "(MCAUSE, MTVAL, MTVAL2, MTINST)", "(SCAUSE, MTVAL, MTVAL2, MTINST)"),
     Mutant("run.rs", "hart.hlv(image, access.width, false, access.address, word)", "hart.hlv(image, 1, false, access.address, word)"),
     Mutant("explain.rs", "if matches!(fault.cause, 20 | 21 | 23) {", "if fault.second != 0 && fault.cause == 21 {"),
-    Mutant("explain.rs", "Kind::Store => \"; the manual has 17", "Kind::Store => \"; the manual has 14"),
+    Mutant("explain.rs", "if fault.word == GUEST_ENTRY {", "if fault.word == GUEST_ENTRY && fault.cause == 21 {"),
     Mutant("walk.rs", "} else if level == 0 {\n        \"a pointer, where", "} else if level == 3 {\n        \"a pointer, where"),
     Mutant("walk.rs", "if target & ((1 << offset_bits(level)) - 1) != 0 {", "if target & ((1 << offset_bits(level)) - 1) == 1 {"),
     Mutant("tree.rs", "below.extend(step_node(paint, stage, others));", "let _ = others;"),

@@ -405,7 +405,7 @@ fn reads_of_guest_entries_stay_reads() {
             }
             let (trap, reached) = world.fault(operation, VIRTUAL + DATA, 4);
             let expected = Trap {
-                cause: 21,
+                cause: if operation == HSV { 23 } else { 21 },
                 value: VIRTUAL + DATA,
                 second: (GUEST + FIRST_1) >> 2,
                 word: 0x3000,
@@ -586,11 +586,11 @@ fn faults_of_each_cause() {
         let mut world = World::new(Mode::Hs);
         world.second_leaf(DATA, 0);
         check(&world, value, (cause(21, 23), guest >> 2, 0), 15);
-        // On the way to a guest entry: a load's, of a store too.
+        // On the way to a guest entry: "the fault of the original access".
         let mut world = World::new(Mode::Hs);
         world.second_leaf(FIRST_0, 0);
         let place = GUEST + FIRST_0 + 8 * (DATA >> 12);
-        check(&world, value, (21, place >> 2, 0x3000), 11);
+        check(&world, value, (cause(21, 23), place >> 2, 0x3000), 11);
         // An entry, and the access, outside the image.
         let mut world = World::new(Mode::Hs);
         world.hart.hgatp = (8 << 60) | ((BASE - 0x4000) >> 12);

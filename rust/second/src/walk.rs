@@ -487,6 +487,16 @@ enum Purpose {
     Access,
 }
 
+impl Purpose {
+    /// For a guest entry "instruction word 00003000 hex". "Other [...] words are 0."
+    fn word(self) -> u64 {
+        match self {
+            Purpose::GuestEntry => 0x3000,
+            Purpose::Access => 0,
+        }
+    }
+}
+
 /// A stage, and what it translates.
 #[derive(Clone, Copy, PartialEq, Eq, Debug)]
 enum Stage {
@@ -640,14 +650,13 @@ impl Walk<'_> {
         self.fault(self.access.kind.page_fault(), 0, 0, why)
     }
 
-    /// "guest-page fault 20, 21, 23"; for a guest entry it "is raised as a load guest-page fault, 21 [...], with instruction
-    /// word 00003000 hex. Every guest-page fault's second value is the guest physical address shifted right by 2."
+    /// "guest-page fault 20, 21, 23", for a guest entry too: "The manual raises the fault of the original access: 20, 21 or 23. [...]
+    /// Value, second value and instruction word stay." (2026-04) "Every guest-page fault's second value is the guest physical
+    /// address shifted right by 2."
     fn guest_page_fault(&self, guest: GuestPhysical, purpose: Purpose, why: Why) -> Fault {
+        let cause = self.access.kind.guest_page_fault();
         let second = guest.0 >> 2;
-        match purpose {
-            Purpose::GuestEntry => self.fault(21, second, 0x3000, why),
-            Purpose::Access => self.fault(self.access.kind.guest_page_fault(), second, 0, why),
-        }
+        self.fault(cause, second, purpose.word(), why)
     }
 
     /// "An entry in the image is read, eight bytes, and listed"; "An entry outside the image: access fault"; "A read outside

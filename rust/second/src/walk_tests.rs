@@ -582,15 +582,31 @@ fn world_for(part: Part, leaf: u64, level: u64) -> (World, usize) {
     }
 }
 
-/// What the fault at a part must be, by the paper.
-fn expected_fault(part: Part, kind: Kind) -> Trap {
-    let by_kind = |fetch, load, store| match kind {
+/// "(fetch, load, store)".
+fn by_kind(kind: Kind, [fetch, load, store]: [u64; 3]) -> u64 {
+    match kind {
         Kind::Fetch => fetch,
         Kind::Load => load,
         Kind::Store => store,
-    };
+    }
+}
+
+/// The fault of an access of VIRTUAL + DATA on the way to the guest entry at this guest physical address: "the fault of the
+/// original access: 20, 21 or 23. [...] Value, second value and instruction word stay."
+fn fault_of_entry(kind: Kind, guest: u64) -> Trap {
+    Trap {
+        cause: by_kind(kind, [20, 21, 23]),
+        value: VIRTUAL + DATA,
+        second: guest >> 2,
+        word: 0x3000,
+        flag: true,
+    }
+}
+
+/// What the fault at a part must be, by the paper.
+fn expected_fault(part: Part, kind: Kind) -> Trap {
     let first = Trap {
-        cause: by_kind(12, 13, 15),
+        cause: by_kind(kind, [12, 13, 15]),
         value: VIRTUAL + DATA,
         second: 0,
         word: 0,
@@ -602,15 +618,9 @@ fn expected_fault(part: Part, kind: Kind) -> Trap {
             flag: true,
             ..first
         },
-        Part::HgatpForEntry => Trap {
-            cause: 21,
-            value: VIRTUAL + DATA,
-            second: (GUEST + FIRST_ROOT + 8) >> 2,
-            word: 0x3000,
-            flag: true,
-        },
+        Part::HgatpForEntry => fault_of_entry(kind, GUEST + FIRST_ROOT + 8),
         Part::HgatpForAccess => Trap {
-            cause: by_kind(20, 21, 23),
+            cause: by_kind(kind, [20, 21, 23]),
             value: GUEST + DATA,
             second: (GUEST + DATA) >> 2,
             word: 0,
@@ -827,14 +837,7 @@ fn the_second_value_is_the_guest_entrys_own_address() {
                 entry(BASE + (page << 12), ALL_RIGHTS & !U),
             );
             let translation = world.access(kind);
-            let expected = Trap {
-                cause: 21,
-                value: VIRTUAL + DATA,
-                second: (GUEST + offset) >> 2,
-                word: 0x3000,
-                flag: true,
-            };
-            assert_eq!(fault(&translation), expected);
+            assert_eq!(fault(&translation), fault_of_entry(kind, GUEST + offset));
             assert_eq!(translation.list.count, 4 * step + 3);
         }
     }
@@ -1049,14 +1052,7 @@ fn high_bits_of_the_guest_physical_address_of_an_entry() {
                 guest: Some(GuestPhysical(guest)),
             })
         );
-        let expected = Trap {
-            cause: 21,
-            value: VIRTUAL + DATA,
-            second: ((1 << 41) + 8) >> 2,
-            word: 0x3000,
-            flag: true,
-        };
-        assert_eq!(fault(&translation), expected);
+        assert_eq!(fault(&translation), fault_of_entry(kind, guest));
         assert_eq!(translation.list.count, 0);
     }
 }

@@ -345,7 +345,7 @@ fn hypervisor_loads_and_stores_of_any_numbers() {
         let reached = reach(&hart, &mut image, &access, word);
         let is_store = matches!(access.operation, Operation::Store { .. });
         assert_eq!(reached.value.is_none(), is_store);
-        check_reason_of_access(&reached.outcome);
+        check_reason_of_access(&reached.outcome, access.access().kind);
         let places = &reached.list.places[reached.list.count..];
         assert!(places.iter().all(|place| *place == Read::default()));
         for read in reached.list.items() {
@@ -396,11 +396,20 @@ fn hypervisor_loads_and_stores_of_any_numbers() {
     assert!(done > 500, "{done}");
 }
 
+/// The causes of the faults that a kind of access can have: no other kind has one of them.
+fn causes_of(kind: Kind) -> &'static [u64] {
+    match kind {
+        Kind::Fetch => &[1, 12, 20],
+        Kind::Load => &[4, 5, 13, 21],
+        Kind::Store => &[6, 7, 15, 23],
+    }
+}
+
 /// A hypervisor load or store that is refused or traps has a reason, by its cause, and one that is done has none.
-fn check_reason_of_access(outcome: &Outcome) {
+fn check_reason_of_access(outcome: &Outcome, kind: Kind) {
     match (outcome.ending, outcome.reason) {
         (Ending::Trapped(trap, _), Some(Reason::Fault(_))) => {
-            assert!(matches!(trap.cause, 4..=7 | 13 | 15 | 21 | 23));
+            assert!(causes_of(kind).contains(&trap.cause), "{trap:x?}");
         }
         (Ending::Trapped(..), None) => panic!("a trap without a reason"),
         _ => check_reason(outcome),
@@ -442,6 +451,7 @@ fn translations_of_any_numbers() {
             }
             Answer::Fault(trap) => {
                 assert_eq!(trap.value, access.address);
+                assert!(causes_of(access.kind).contains(&trap.cause), "{trap:x?}");
                 assert!(translation.why.is_some());
                 // "a trap request delivers the fault".
                 let outcome = request(&hart, &trap);

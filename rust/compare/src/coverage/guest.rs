@@ -18,7 +18,7 @@ use second::trap::{Ending, Target, Trap};
 use second::walk::{self, Key, List, Part, Read, Rule};
 
 use super::words::GUEST_EVENTS;
-use super::{add, count, entry_rules, event_word, Before};
+use super::{add, count, ends, event_word, of_entry, reachable_rules, Before};
 use crate::tables::{R, U, W, X};
 
 /// A form: the event, the width, and whether it is sign-extended.
@@ -209,33 +209,15 @@ pub fn hlvx_rules() -> Vec<Key> {
 
 /// Every rule that can end an event's walk, at every part and level.
 pub fn rules_of(event: &str) -> Vec<Key> {
-    let mut rules: Vec<Key> = Vec::new();
-    for rule in [Rule::Misaligned, Rule::AccessOutside] {
-        rules.push((rule, Part::Access, None));
-    }
-    for part in [Part::Vsatp, Part::HgatpForEntry, Part::HgatpForAccess] {
-        rules.push((Rule::HighBits, part, None));
-        for level in 0..3 {
-            let of_level = entry_rules(part, level).into_iter();
-            let can_be = of_level.filter(|rule| match rule {
-                Rule::NotDirty | Rule::NotWritable => event == "hsv",
-                Rule::NotReadable => event == "hlv" || part == Part::HgatpForEntry,
-                Rule::NotExecutable | Rule::SupervisorFetch => false,
-                _ => true,
-            });
-            rules.extend(can_be.map(|rule| (rule, part, Some(level))));
-        }
-    }
-    if event == "hlvx" {
-        rules.extend(hlvx_rules());
-    }
-    rules
+    let rules = reachable_rules().into_iter().chain(hlvx_rules());
+    let of_guest = rules.filter(|(_, part, _)| *part != Part::Satp);
+    of_guest.filter(|key| ends(event, key)).collect()
 }
 
 /// The causes of an event's faults, each with whether it is one on the way to a guest entry.
 fn causes_of(event: &str) -> [(u64, bool); 5] {
     match event {
-        "hsv" => [(6, false), (7, false), (15, false), (23, false), (21, true)],
+        "hsv" => [(6, false), (7, false), (15, false), (23, false), (23, true)],
         _ => [(4, false), (5, false), (13, false), (21, false), (21, true)],
     }
 }
@@ -579,7 +561,7 @@ impl Guest {
                     let key = why.key();
                     self.reach(Case::Fault { event, key });
                     self.note_rights(event, &before.hart, &reached.list, Some(key));
-                    let of_entry = why.part == Part::HgatpForEntry && trap.cause == 21;
+                    let of_entry = of_entry(&key);
                     let spvp = bit(before.hart.hstatus, SPVP);
                     let delivery = (event, trap.cause, of_entry, mode, target, spvp);
                     self.awaited = Some(Awaited::Trap(delivery, trap, Box::new(before.hart)));

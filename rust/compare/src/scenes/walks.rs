@@ -417,7 +417,11 @@ fn with_damaged_entry(scribe: &mut Scribe, tables: &Tables, access: &Access, way
     let read = choose_entry(scribe, &list);
     let damage = scribe.rng.pick(&DAMAGES);
     let entry = damaged(scribe, tables, &read, damage);
-    let access = suited(scribe, access, damage, way);
+    let access = match damage {
+        // A guest entry is read, whatever the access is.
+        Damage::NotReadable | Damage::ExecuteOnly if for_entry(&list, &read) => *access,
+        _ => suited(scribe, access, damage, way),
+    };
     scribe.put(read.address, entry);
     perform(scribe, &access, way);
     if scribe.rng.chance(15) {
@@ -454,6 +458,12 @@ fn choose_entry(scribe: &mut Scribe, items: &[Read]) -> Read {
     } else {
         scribe.rng.pick(&leaves)
     }
+}
+
+/// Whether an entry of the list is the second stage's on the way to a guest entry.
+fn for_entry(items: &[Read], read: &Read) -> bool {
+    let mut rest = items.iter().skip_while(|item| *item != read);
+    read.stage == 2 && rest.any(|item| item.stage == 1)
 }
 
 /// The damaged entry.
