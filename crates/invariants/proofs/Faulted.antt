@@ -3,7 +3,7 @@ use mathlib.Core.Path.{_≡_, refl, sym, subst, _∙_}
 use mathlib.Core.Bool.{Bool, true, false}
 use mathlib.Core.List.{List}
 use mathlib.Core.Logic.{_⊎_, inl, inr}
-use Prim.Native.Nat.{ℕ, _/_}
+use Prim.Native.Nat.{ℕ, _/_, _≤_}
 use native.Mathlib.Omega.{arith}
 use lib.Dec.{eqb}
 use lib.ListN.{length}
@@ -13,7 +13,7 @@ use Rattle.bits.proofs.Bools.{clash}
 use Rattle.bits.proofs.Fields.{get-lt}
 use Rattle.bits.proofs.Tests.{fits, apart, got, other}
 use Rattle.registers.specs.Fields.{SPV, SPVP}
-use Rattle.registers.specs.Places.{kept, hstatus, medeleg, hedeleg}
+use Rattle.registers.specs.Places.{kept, vsatp, hstatus, medeleg, hedeleg, hgatp}
 use Rattle.registers.specs.Rules.{among}
 use Rattle.exceptions.specs.declared.Exception.{Exception}
 use Rattle.traps.specs.Request.{impossible}
@@ -24,31 +24,36 @@ use Rattle.delivery.specs.Delivery.{target}
 use Rattle.access.specs.declared.Access.{Access}
 use Rattle.access.specs.Widths.{misaligned}
 use Rattle.access.specs.Faults.{raised, misalignment}
+use Rattle.access.proofs.Faults.{not-high, misalignment-low}
 use Rattle.rules.specs.declared.Kind.the-variants.{Load, Store}
 use Rattle.rules.specs.Kind.{by}
-use Rattle.stages.specs.Tree.{run}
+use Rattle.stages.specs.Tree.{Ran, run}
 use Rattle.stages.specs.Stages.{yields, faults, look, walkOf}
+use Rattle.stages.specs.Denied.{GuestPageFault}
 use Rattle.stages.proofs.Raised.{every-fault}
+use Rattle.stages.proofs.Guarded.{guest-page-fault}
+use Rattle.effective.specs.Effective.{isBare, root, firstRoot, secondRoot}
 use Rattle.hypervisor.specs.declared.Operation.{Operation}
 use Rattle.hypervisor.specs.declared.Operation.the-variants.{Hlv, Hlvx, Hsv}
 use Rattle.hypervisor.specs.Hypervisor.{End, byOperation, kindOf, refusalOf, accessFor, walkFor}
 use Rattle.hart.specs.declared.state.Hart.{Hart}
 use Rattle.hart.specs.declared.event.Step.{Step}
+use Rattle.hart.specs.declared.event.Stop.{Stop}
 use Rattle.hart.specs.declared.guest.Reach.{Reach}
 use Rattle.hart.specs.declared.event.Outcome.the-variants.{Trapped}
 use Rattle.hart.specs.Hart.{reg, context, paging, passes}
 use Rattle.hart.specs.Deliver.{deliveredM, deliveredHS, deliveredTo, delivered}
 use Rattle.hart.specs.Event.{plain, settled}
 use Rattle.hart.specs.Trap.{trap}
-use Rattle.hart.specs.Guest.{ended, reach}
+use Rattle.hart.specs.Guest.{ended, arrived, reachedBy, reach}
 use Rattle.translate.specs.Causes.{causesOf}
 use Rattle.translate.proofs.Delivered.{can-misalign, can-access, can-page, can-guest-page, can-entry}
 use Rattle.invariants.specs.Events.{stepAt, told}
 use Rattle.invariants.proofs.Mode.{Mode, passing}
 use Rattle.invariants.proofs.Mode as modes
-use Rattle.invariants.proofs.Settled.{settled-cases}
+use Rattle.invariants.proofs.Settled.{stop-cases, settled-cases}
 use Rattle.invariants.proofs.Comes.{reach-settles}
-use Rattle.invariants.proofs.Reached.{misaligned-one}
+use Rattle.invariants.proofs.Reached.{listed, listed-walk, misaligned-one}
 use Rattle.invariants.proofs.Sides.{only-from-guest}
 use Rattle.invariants.proofs.Told.{after-trap, tells, tells-plain}
 
@@ -200,3 +205,29 @@ module _ (h : Hart) (o : Operation) (base : ℕ) (bytes : List ℕ) (width addre
               spv = rw d (l .spv);
               request = rw (d, l .told-all, pass, x .possible);
             }
+
+    -- a guest-page fault's: it is "the fault of the original access" (2026-04), of the guest entry that the first stage had come to by the items listed, or of the access itself
+    pub guest-page-told : among cause (causes o) ≡ true → 20 ≤ cause → isBare (reg h hgatp) ≡ false
+        → GuestPageFault (root (reg h vsatp)) (byOperation o Load Load Store) address true (listed r) (told (r .hart))
+    unfolding reach walkFor firstRoot secondRoot
+    guest-page-told which high on =
+        stop-cases (λ (s : Stop). Told (reachedBy s h word walked)) h (refusalOf o base (length bytes) width) (hypervisorAccess (context h)) (λ n z q. clash (cc))
+        (λ p c w q. let k : c ≡ cause = cc in clash (sym (rw k at (excluded c w)) ∙ which)) (λ p own no2 no22. by-end p no22 (walked .end) refl) e
+      where
+        walked : Ran End
+        walked = walkFor base bytes a
+
+        Told : Reach → Type 0
+        Told x = x .outcome ≡ Trapped cause → GuestPageFault (root (reg h vsatp)) (byOperation o Load Load Store) address true (listed x) (told (x .hart))
+
+        met : (f : Exception) → 20 ≤ f .cause → (b : Bool)
+            → let w = pick b (misaligned-one a) (run (look base bytes) (walkOf base (length bytes) a)) in
+            w .end ≡ faults f → GuestPageFault (root (reg h vsatp)) (kindOf o) address true (w .reads) f
+        met f c true q = let k : f ≡ misalignment a = cc in not-high (misalignment a) f k (misalignment-low a) c
+        met f c false q = guest-page-fault (look base bytes) base (length bytes) a (rw on (omega arith)) f q c
+
+        by-end : passes h ≡ true → eqb (h .v) 1 ≡ false → (x : End) → walked .end ≡ x → Told (arrived h (record { end = x; reads = walked .reads }))
+        by-end p v (yields m) q t = clash (cc)
+        by-end p v (faults f) q t =
+            let k : f .cause ≡ cause = cc in
+            rw (listed-walk h walked, left f size (fault-of f q) p v .told-all) (met f (rw k high) (misaligned (kindOf o) address width) q)

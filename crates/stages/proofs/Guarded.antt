@@ -15,16 +15,15 @@ use Rattle.exceptions.specs.declared.Exception.{Exception}
 use Rattle.rules.specs.declared.Need.{Need}
 use Rattle.rules.specs.declared.Judgement.{Judgement}
 use Rattle.rules.specs.declared.Judgement.the-variants.{Pointer, Leaf, Bad}
-use Rattle.rules.specs.Kind.{by}
 use Rattle.rules.specs.Address.{Stage, first, second, number, wellFormed}
 use Rattle.rules.specs.Entry.{pointer, faulty, target, judged}
-use Rattle.rules.proofs.Cases.{each-kind}
 use Rattle.rules.proofs.Judgements.{is-pointer, is-leaf}
 use Rattle.access.specs.declared.Access.{Access}
 use Rattle.access.specs.declared.Guest.{Guest}
 use Rattle.access.specs.declared.Machine.{Machine}
 use Rattle.access.specs.Needs.{firstNeed, secondNeed, entryNeed}
 use Rattle.access.specs.Faults.{accessFault, pageFault, entryFault, guestPageFault}
+use Rattle.access.proofs.Faults.{not-high, access-low, page-low}
 use Rattle.stages.specs.declared.Read.{Read}
 use Rattle.stages.specs.Tree.{Walk, done, ask, bind, item, Ran, listed, found, run}
 use Rattle.stages.specs.Stages.{Result, yields, faults, onward, _then_, Translation, slot, follow, inspect, down, begin, translation, guest, machine, second-of, first-of, last, final, walkOf}
@@ -448,31 +447,41 @@ module _ (look : Machine → Entry) (base len : ℕ) (a : Access) (on : 0 < a .s
             };
           }
 
-  -- a guest-page fault is of the guest entry that the first stage had come to, or of the access itself
-  pub guest-page-fault : (f : Exception) → run look (walkOf base len a) .end ≡ faults f → 20 ≤ f .cause → GuestPageFault (a .first) (a .kind) (a .address) (a .v) (run look (walkOf base len a) .reads) f
+-- ---- where a guest-page fault was met: at the guest entry that the first stage had come to, or at the access itself
+
+module _ (look : Machine → Entry) (base len : ℕ) (a : Access) (on : 0 < a .second .levels) (f : Exception) where
+  abbrev Told : List Read → Type 0
+  Told xs = GuestPageFault (a .first) (a .kind) (a .address) (a .v) xs f
+
+  -- an access or page fault has another cause
+  other : {P : Type 0} → Plain a f → 20 ≤ f .cause → P
+  other (inl e) = not-high (accessFault a) f e (access-low a)
+  other (inr e) = not-high (pageFault a) f e (page-low a)
+
+  pub guest-page-fault : run look (walkOf base len a) .end ≡ faults f → 20 ≤ f .cause → Told (run look (walkOf base len a) .reads)
   unfolding walkOf run
-  guest-page-fault f = rw (run-bind look firstWalk (onward (final base len a))) (go (run look firstWalk .end) refl)
+  guest-page-fault = rw (run-bind look w (onward (final base len a))) (go (run look w .end) refl)
     where
+      w : Walk (Result Guest)
+      w = translation (first-of a)
+
       ws : List Read
-      ws = run look firstWalk .reads
+      ws = run look w .reads
 
-      Told : List Read → Type 0
-      Told xs = GuestPageFault (a .first) (a .kind) (a .address) (a .v) xs f
+      -- of one byte: every address is a multiple
+      first-stage : First look base len a on 0 (omega arith) (omega arith) (run look w)
+      first-stage = first-part look base len a on 0 (omega arith) (omega arith)
 
-      -- an access or page fault has another cause
-      other : {P : Type 0} → Plain a f → 20 ≤ f .cause → P
-      other (inl e) c = let l : f .cause < 20 = rw e (each-kind (λ k. by k 1 5 7 < 20) (omega arith) (omega arith) (omega arith) (a .kind)) in absurd (omega (arith, c, l))
-      other (inr e) c = let l : f .cause < 20 = rw e (each-kind (λ k. by k 12 13 15 < 20) (omega arith) (omega arith) (omega arith) (a .kind)) in absurd (omega (arith, c, l))
+      entry : Plain a f ⊎ ((0 < a .first .levels) × Toward a (a .first .levels - 1) (a .first .ppn * 4096) ws f) → 20 ≤ f .cause → Told ws
+      entry (inl p) c = other p c
+      entry (inr (p, k)) c = rw (k .same) (record { guest = entryAt a (k .at) (k .t) .0; denied = at-entry (k .at) (k .t) p (k .way); cause = refl; value = refl; value2 = refl; flag = refl })
 
-      at-an-entry : Plain a f ⊎ ((0 < a .first .levels) × Toward a (a .first .levels - 1) (a .first .ppn * 4096) ws f) → 20 ≤ f .cause → Told ws
-      at-an-entry (inl p) c = other p c
-      at-an-entry (inr (p, k)) c = rw (k .same) (record { guest = entryAt a (k .at) (k .t) .0; denied = at-entry (k .at) (k .t) p (k .way); cause = refl; value = refl; value2 = refl; flag = refl })
+      itself : (g : Guest) → run look w .end ≡ yields g → (f ≡ accessFault a) ⊎ (f ≡ guestPageFault a g) → 20 ≤ f .cause → Told (ws ++ run look (final base len a g) .reads)
+      itself g e (inl p) c = other (inl p) c
+      itself g e (inr p) c =
+          let only = final-part look base len a on 0 (omega arith) (omega arith) g e .only in
+          rw p (record { guest = g .0; denied = at-access ws (run look (final base len a g) .reads) g refl only (first-stage .result g e); cause = refl; value = refl; value2 = refl; flag = refl })
 
-      at-the-access : (g : Guest) → run look firstWalk .end ≡ yields g → (f ≡ accessFault a) ⊎ (f ≡ guestPageFault a g) → 20 ≤ f .cause → Told (ws ++ run look (final base len a g) .reads)
-      at-the-access g e (inl p) c = other (inl p) c
-      at-the-access g e (inr p) c =
-          rw p (record { guest = g .0; denied = at-access ws (run look (final base len a g) .reads) g refl (final-part g e .only) (first-part .result g e); cause = refl; value = refl; value2 = refl; flag = refl })
-
-      go : (o : Result Guest) → run look firstWalk .end ≡ o → run look (onward (final base len a) o) .end ≡ faults f → 20 ≤ f .cause → Told (ws ++ run look (onward (final base len a) o) .reads)
-      go (faults x) e q = let k : x ≡ f = cc in rw append-nil (at-an-entry (first-part .fault f (e ∙ ap faults k)))
-      go (yields g) e q = at-the-access g e (final-fault (λ x. (x ≡ accessFault a) ⊎ (x ≡ guestPageFault a g)) base len a (inl refl) g (λ p. inr refl) look f q)
+      go : (o : Result Guest) → run look w .end ≡ o → run look (onward (final base len a) o) .end ≡ faults f → 20 ≤ f .cause → Told (ws ++ run look (onward (final base len a) o) .reads)
+      go (faults x) e q = let k : x ≡ f = cc in rw append-nil (entry (first-stage .fault f (e ∙ ap faults k)))
+      go (yields g) e q = itself g e (final-fault (λ x. (x ≡ accessFault a) ⊎ (x ≡ guestPageFault a g)) base len a (inl refl) g (λ p. inr refl) look f q)

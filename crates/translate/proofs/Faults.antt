@@ -2,8 +2,7 @@
 use mathlib.Core.Path.{_≡_, refl, ap, subst}
 use mathlib.Core.Bool.{Bool, true, false}
 use mathlib.Core.List.{List}
-use Prim.Native.Nat.{ℕ, zero, suc, _<_, _≤_}
-use native.Mathlib.Omega.{arith}
+use Prim.Native.Nat.{ℕ, zero, suc, _≤_}
 use lib.ListN.{length}
 use Rattle.bits.specs.Field.{pick}
 use Rattle.bits.proofs.Bools.{clash}
@@ -21,6 +20,7 @@ use Rattle.access.specs.declared.Machine.{Machine}
 use Rattle.access.specs.declared.Root.{Root}
 use Rattle.access.specs.Widths.{misaligned}
 use Rattle.access.specs.Faults.{misalignment}
+use Rattle.access.proofs.Faults.{not-high, misalignment-low}
 use Rattle.stages.specs.Stages.{Result, yields, faults, look}
 use Rattle.stages.specs.Denied.{GuestPageFault}
 use Rattle.stages.proofs.Raised.{every-fault}
@@ -54,7 +54,7 @@ module _ (h : Hart) (base : ℕ) (bytes : List ℕ) (kind : Kind) (address width
 
   -- every fault's cause is one of the original access's own, a guest entry's too: a store never comes up as a load
   pub own-cause : (f : Exception) → t .answer ≡ Answer.Fault f → among (f .cause) (causesOf kind) ≡ true
-  unfolding translated startOf
+  unfolding translated startOf accessOf
   own-cause f = go (firstRefusal (refusals h base (length bytes) kind address width)) (misaligned kind address width) refl
     where
       of-misaligned : (k : Kind) → misaligned k address width ≡ true → among (by k 0 4 6) (causesOf k) ≡ true
@@ -77,8 +77,8 @@ module _ (h : Hart) (base : ℕ) (bytes : List ℕ) (kind : Kind) (address width
       (subst (λ (r : Root). 20 ≤ f .cause → GuestPageFault r kind address (a .v) (listed t) f) (first-tables h kind address width on)
       (each h base bytes kind address width (λ (r : Translated). r .answer ≡ Answer.Fault f → 20 ≤ f .cause → GuestPageFault (a .first) kind address (a .v) (listed r) f) at-once
       (λ p k q. rw (listed-walk h (ranOf h base bytes kind address width))
-      (guest-page-fault (look base bytes) base (length bytes) a (second-levels h kind address width on) (k .k) (k .small) (k .multiple) f (fault-ended _ f q))) e))
+      (guest-page-fault (look base bytes) base (length bytes) a (second-levels h kind address width on) f (fault-ended _ f q))) e))
     where
       at-once : (x : Answer) → AtOnce h base bytes kind address width x → x ≡ Answer.Fault f → 20 ≤ f .cause → GuestPageFault (a .first) kind address (a .v) (listed (unwalked h x)) f
-      at-once x (refused n) q = clash (cc)
-      at-once x (misaligned-by p) q c = let k : misalignment a ≡ f = cc in let low : f .cause < 20 = rw (← k) (each-kind (λ k. by k 0 4 6 < 20) (omega arith) (omega arith) (omega arith) kind) in absurd (omega (arith, c, low))
+      at-once x (refused n) q c = clash (cc)
+      at-once x (misaligned-by p) q c = let k : f ≡ misalignment a = cc in not-high (misalignment a) f k (misalignment-low a) c
