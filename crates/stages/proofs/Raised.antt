@@ -94,10 +94,10 @@ module _ (P : Exception → Type 0) where
     final-fault g guest-page look = raises-run look (final base len a g) (raises-final g guest-page)
 
     -- what holds of the five faults holds of every fault of a walk
-    pub every-fault : P (pageFault a) → (0 < a .second .levels → (g : Guest) → P (guestPageFault a g)) → (0 < a .second .levels → (g : Guest) → P (entryFault a g))
-        → (look : Machine → Entry) (f : Exception) → run look (walkOf base len a) .end ≡ faults f → P f
-    unfolding walkOf
-    every-fault page guest-page entry look =
-        raises-run look (walkOf base len a)
-        (raises-then (translation (first-of a)) (final base len a)
-        (raises-begin (first-of a) access (λ x. raises-second a access entryNeed (entryFault a (guest x)) (guest x) (λ on. entry on (guest x))) (a .first .levels) (λ on. page)) (λ g. raises-final g (λ on. guest-page on g)))
+    module _ (page : P (pageFault a)) (guest-page : 0 < a .second .levels → (g : Guest) → P (guestPageFault a g)) (entry : 0 < a .second .levels → (g : Guest) → P (entryFault a g)) where
+      pub every-fault : (look : Machine → Entry) (f : Exception) → run look (walkOf base len a) .end ≡ faults f → P f
+      unfolding walkOf
+      every-fault look =
+          raises-run look (walkOf base len a)
+          (raises-then (translation (first-of a)) (final base len a)
+          (raises-begin (first-of a) access (λ x. raises-second a access entryNeed (entryFault a (guest x)) (guest x) (λ on. entry on (guest x))) (a .first .levels) (λ on. page)) (λ g. raises-final g (λ on. guest-page on g)))

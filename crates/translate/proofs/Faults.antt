@@ -70,9 +70,9 @@ module _ (h : Hart) (base : ℕ) (bytes : List ℕ) (kind : Kind) (address width
 
   -- With the second stage on: a guest-page fault is of the guest entry that the first stage, by the items listed, had come to, with word 3000, or of the access itself, with
   -- word 0; its second value names the guest address, its cause is the original access's.
-  pub told : secondOn h kind ≡ true → (f : Exception) → t .answer ≡ Answer.Fault f → 20 ≤ f .cause → GuestPageFault (root (reg h vsatp)) kind address true (listed t) f
+  pub guest-page-told : secondOn h kind ≡ true → (f : Exception) → t .answer ≡ Answer.Fault f → 20 ≤ f .cause → GuestPageFault (root (reg h vsatp)) kind address true (listed t) f
   unfolding accessOf
-  told on f e =
+  guest-page-told on f e =
       subst (λ (v : Bool). 20 ≤ f .cause → GuestPageFault (root (reg h vsatp)) kind address v (listed t) f) (virtual h kind address width on)
       (subst (λ (r : Root). 20 ≤ f .cause → GuestPageFault r kind address (a .v) (listed t) f) (first-tables h kind address width on)
       (each h base bytes kind address width (λ (r : Translated). r .answer ≡ Answer.Fault f → 20 ≤ f .cause → GuestPageFault (a .first) kind address (a .v) (listed r) f) at-once

@@ -122,13 +122,6 @@ const MUTANTS: &[Mutant] = &[
     Mutant("walk.rs", "            if !bit(entry, PTE_U) {\n                return Err(Rule::NotUser);\n            }\n", ""),
     Mutant("walk.rs", "            if !bit(entry, PTE_U) {\n                return Err(Rule::NotUser);\n            }\n", "            if purpose == Purpose::Access && !bit(entry, PTE_U) {\n                return Err(Rule::NotUser);\n            }\n"),
     Mutant("walk.rs", "if !supervisor && !user_page {", "if !supervisor && !user_page && self.access.kind != Kind::Fetch {"),
-    Mutant("walk.rs", "let cause = self.access.kind.guest_page_fault();", "let cause = if purpose == Purpose::GuestEntry { 21 } else { self.access.kind.guest_page_fault() };"),
-    Mutant("walk.rs", "let cause = self.access.kind.guest_page_fault();", "let cause = if purpose == Purpose::GuestEntry { 23 } else { self.access.kind.guest_page_fault() };"),
-    Mutant("walk.rs", "let cause = self.access.kind.guest_page_fault();", "let cause = if purpose == Purpose::GuestEntry && self.access.kind == Kind::Fetch { 21 } else { self.access.kind.guest_page_fault() };"),
-    Mutant("walk.rs", "let cause = self.access.kind.guest_page_fault();", "let cause = if purpose == Purpose::GuestEntry && self.hart.v == 0 { 21 } else { self.access.kind.guest_page_fault() };"),
-    Mutant("walk.rs", "let cause = self.access.kind.guest_page_fault();", "let cause = if purpose == Purpose::GuestEntry && self.hart.v == 1 && self.access.kind == Kind::Store { 21 } else { self.access.kind.guest_page_fault() };"),
-    Mutant("walk.rs", "let cause = self.access.kind.guest_page_fault();", "let cause = if purpose == Purpose::GuestEntry && why.level == Some(0) && self.access.kind == Kind::Store { 21 } else { self.access.kind.guest_page_fault() };"),
-    Mutant("walk.rs", "let cause = self.access.kind.guest_page_fault();", "let cause = if purpose == Purpose::GuestEntry && self.needs_x { 20 } else { self.access.kind.guest_page_fault() };"),
     Mutant("walk.rs", "Purpose::GuestEntry => 0x3000,", "Purpose::GuestEntry => 0x3020,"),
     Mutant("walk.rs", "let second = guest.0 >> 2;", "let second = (guest.0 & 0xff_ffff_ffff_ffff) >> 2;"),
     Mutant("walk.rs", "flag: self.mode.v(),", "flag: self.hart.v == 1,"),
@@ -757,6 +750,19 @@ const GUEST_LINES: &[Mutant] = &[
     Mutant("script.rs", "Answer::Guest(reached) => reached.outcome.reason,", "Answer::Guest(_) => None,"),
 ];
 
+/// In the fault of a guest entry.
+const ENTRY_FAULTS: &[Mutant] = &[
+    Mutant("walk.rs", "let cause = self.access.kind.guest_page_fault();", "let cause = if purpose == Purpose::GuestEntry { 21 } else { self.access.kind.guest_page_fault() };"),
+    Mutant("walk.rs", "let cause = self.access.kind.guest_page_fault();", "let cause = if purpose == Purpose::GuestEntry { 23 } else { self.access.kind.guest_page_fault() };"),
+    Mutant("walk.rs", "let cause = self.access.kind.guest_page_fault();", "let cause = if purpose == Purpose::GuestEntry && self.access.kind == Kind::Fetch { 21 } else { self.access.kind.guest_page_fault() };"),
+    Mutant("walk.rs", "let cause = self.access.kind.guest_page_fault();", "let cause = if purpose == Purpose::GuestEntry && self.hart.v == 0 { 21 } else { self.access.kind.guest_page_fault() };"),
+    Mutant("walk.rs", "let cause = self.access.kind.guest_page_fault();", "let cause = if purpose == Purpose::GuestEntry && self.hart.v == 1 && self.access.kind == Kind::Store { 21 } else { self.access.kind.guest_page_fault() };"),
+    Mutant("walk.rs", "let cause = self.access.kind.guest_page_fault();", "let cause = if purpose == Purpose::GuestEntry && why.level == Some(0) && self.access.kind == Kind::Store { 21 } else { self.access.kind.guest_page_fault() };"),
+    Mutant("walk.rs", "let cause = self.access.kind.guest_page_fault();", "let cause = if purpose == Purpose::GuestEntry && self.needs_x { 20 } else { self.access.kind.guest_page_fault() };"),
+    Mutant("walk.rs", "let cause = self.access.kind.guest_page_fault();", "let cause = if purpose == Purpose::GuestEntry { self.access.kind.page_fault() } else { self.access.kind.guest_page_fault() };"),
+    Mutant("walk.rs", "let cause = self.access.kind.guest_page_fault();", "let cause = if purpose == Purpose::GuestEntry && self.hart.privilege == 3 { 21 } else { self.access.kind.guest_page_fault() };"),
+];
+
 fn source() -> PathBuf {
     Path::new(env!("CARGO_MANIFEST_DIR")).join("../second/src")
 }
@@ -772,6 +778,7 @@ fn every_mutant_still_fits_the_source() {
         WORD_LINES,
         GUEST,
         GUEST_LINES,
+        ENTRY_FAULTS,
     ];
     for mutant in all.into_iter().flatten() {
         mutant.changed_text(&source());
@@ -893,4 +900,10 @@ fn every_mutant_of_hypervisor_loads_and_stores_is_caught() {
 #[ignore = "takes minutes"]
 fn every_mutant_of_what_is_said_about_hypervisor_loads_and_stores_is_caught() {
     check(GUEST_LINES, |_| false);
+}
+
+#[test]
+#[ignore = "takes minutes"]
+fn every_mutant_of_the_fault_of_a_guest_entry_is_caught() {
+    check(ENTRY_FAULTS, |_| true);
 }
