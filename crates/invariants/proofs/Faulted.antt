@@ -57,7 +57,7 @@ use Rattle.invariants.proofs.Reached.{listed, listed-walk, misaligned-o
 use Rattle.invariants.proofs.Sides.{only-from-guest}
 use Rattle.invariants.proofs.Told.{after-trap, tells, tells-plain}
 
--- HLV and HLVX fault as a load, HSV as a store
+-- HLVX "faults as a load", as HLV does, HSV as a store
 abbrev pub causes : Operation → List ℕ
 causes o = byOperation o (causesOf Load) (causesOf Load) (causesOf Store)
 

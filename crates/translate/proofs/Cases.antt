@@ -1,12 +1,13 @@
 -- What a translation comes to: at once a refusal or a misalignment, else the walk. Assumes nothing.
-use mathlib.Core.Path.{_≡_}
+use mathlib.Core.Path.{_≡_, ap}
 use mathlib.Core.Bool.{true, not}
 use mathlib.Core.List.{List}
 use Prim.Native.Nat.{ℕ, suc}
 use lib.ListN.{length}
 use borrow.Author.Tests.{not-false}
 use Rattle.bits.specs.Field.{pick}
-use Rattle.bits.proofs.Bools.{pick-both}
+use Rattle.bits.proofs.Bools.{clash, pick-both}
+use Rattle.exceptions.specs.declared.Exception.{Exception}
 use Rattle.hart.specs.declared.state.Hart.{Hart}
 use Rattle.hart.specs.Hart.{passes}
 use Rattle.image.specs.Image.{unfit}
@@ -16,13 +17,18 @@ use Rattle.access.specs.Widths.{misaligned}
 use Rattle.access.specs.Faults.{misalignment}
 use Rattle.access.proofs.Widths.{Aligned}
 use Rattle.stages.specs.Tree.{Ran, run}
-use Rattle.stages.specs.Stages.{Result, look, walkOf}
+use Rattle.stages.specs.Stages.{Result, yields, faults, look, walkOf}
 use Rattle.translate.specs.declared.Answer.{Answer}
 use Rattle.translate.specs.declared.Start.{Start}
 use Rattle.translate.specs.declared.Start.the-variants.{Answered, Walks}
 use Rattle.translate.specs.declared.Translated.{Translated}
-use Rattle.translate.specs.Translated.{unsupported, unlessRefused, accessOf, startOf, unwalked, walkedTo, concluded, translated}
+use Rattle.translate.specs.Translated.{unsupported, unlessRefused, accessOf, startOf, answer, unwalked, walkedTo, concluded, translated}
 use Rattle.translate.proofs.Accesses.{aligned}
+
+-- a fault answered is the walk's
+pub fault-ended : (o : Result Machine) (f : Exception) → answer o ≡ Answer.Fault f → o ≡ faults f
+fault-ended (yields m) f e = clash (cc)
+fault-ended (faults x) f e = let q : x ≡ f = cc in ap faults q
 
 module _ (h : Hart) (base : ℕ) (bytes : List ℕ) (kind : Kind) (address width : ℕ) where
   -- the walk over the image

@@ -1,5 +1,5 @@
 -- "a trap request delivers the fault": what a translation answers as a fault is a request that is taken. Assumes nothing.
-use mathlib.Core.Path.{_≡_, refl, ap}
+use mathlib.Core.Path.{_≡_, refl}
 use mathlib.Core.Bool.{Bool, true, false, _&&_, _||_, not}
 use mathlib.Core.List.{List}
 use Prim.Native.Nat.{ℕ, _/_, _<_}
@@ -20,15 +20,14 @@ use Rattle.rules.specs.Kind.{by}
 use Rattle.rules.proofs.Cases.{each-kind}
 use Rattle.access.specs.declared.Access.{Access}
 use Rattle.access.specs.declared.Guest.{Guest}
-use Rattle.access.specs.declared.Machine.{Machine}
 use Rattle.access.specs.Faults.{raised, misalignment, accessFault, pageFault, guestPageFault, entryFault}
-use Rattle.stages.specs.Stages.{Result, yields, faults, look}
+use Rattle.stages.specs.Stages.{look}
 use Rattle.stages.proofs.Raised.{every-fault}
 use Rattle.translate.specs.declared.Answer.{Answer}
 use Rattle.translate.specs.declared.Translated.{Translated}
 use Rattle.effective.specs.Effective.{effective, secondRoot}
-use Rattle.translate.specs.Translated.{accessOf, answer, translated}
-use Rattle.translate.proofs.Cases.{AtOnce, refused, misaligned-by, each}
+use Rattle.translate.specs.Translated.{accessOf, translated}
+use Rattle.translate.proofs.Cases.{fault-ended, AtOnce, refused, misaligned-by, each}
 
 -- the flag of a fault that is no guest-page fault, and of one that is
 plain-flag : (flag v : Bool) → (v ≡ true → flag ≡ true) → (flag && false || (not flag && false || not flag && (v && true))) ≡ false
@@ -98,17 +97,13 @@ module _ (h : Hart) (kind : Kind) (address width : ℕ) where
         each h base bytes kind address width (λ (t : Translated). t .answer ≡ Answer.Fault f → Arises f) at-once
         (λ p k e. record {
           passing = p;
-          possible = walked _ (every-fault (λ x. impossible (context h) x ≡ false) base (length bytes) a (can-access (context h) a from-guest) (can-page (context h) a from-guest)
-              (λ on. can-guest-page (context h) a (second-on on)) (λ on. can-entry (context h) a (second-on on)) (look base bytes) f) e;
+          possible = every-fault (λ x. impossible (context h) x ≡ false) base (length bytes) a (can-access (context h) a from-guest) (can-page (context h) a from-guest)
+              (λ on. can-guest-page (context h) a (second-on on)) (λ on. can-entry (context h) a (second-on on)) (look base bytes) f (fault-ended _ f e);
         })
       where
         at-once : (x : Answer) → AtOnce h base bytes kind address width x → x ≡ Answer.Fault f → Arises f
         at-once x (refused n) e = clash (cc)
         at-once x (misaligned-by p) e = let q : misalignment a ≡ f = cc in record { passing = p; possible = rw (← q) (can-misalign (context h) a from-guest) }
-
-        walked : (o : Result Machine) → (o ≡ faults f → impossible (context h) f ≡ false) → answer o ≡ Answer.Fault f → impossible (context h) f ≡ false
-        walked (yields m) k e = clash (cc)
-        walked (faults x) k e = let q : x ≡ f = cc in k (ap faults q)
 
     -- a trap request with the fault that a translation answers is taken: it is delivered, not refused
     pub fault-taken : (f : Exception) → translated h base bytes kind address width .answer ≡ Answer.Fault f → trap h f ≡ trapped h f

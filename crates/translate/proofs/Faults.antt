@@ -1,5 +1,5 @@
 -- What a translation's faults tell. Assumes nothing.
-use mathlib.Core.Path.{_≡_, refl, ap, subst}
+use mathlib.Core.Path.{_≡_, refl, subst}
 use mathlib.Core.Bool.{Bool, true, false}
 use mathlib.Core.List.{List}
 use Prim.Native.Nat.{ℕ, zero, suc, _≤_}
@@ -16,12 +16,11 @@ use Rattle.rules.specs.declared.Kind.the-variants.{Fetch, Load, Store}
 use Rattle.rules.specs.Kind.{by}
 use Rattle.rules.proofs.Cases.{each-kind}
 use Rattle.access.specs.declared.Access.{Access}
-use Rattle.access.specs.declared.Machine.{Machine}
 use Rattle.access.specs.declared.Root.{Root}
 use Rattle.access.specs.Widths.{misaligned}
 use Rattle.access.specs.Faults.{misalignment}
 use Rattle.access.proofs.Faults.{not-high, misalignment-low}
-use Rattle.stages.specs.Stages.{Result, yields, faults, look}
+use Rattle.stages.specs.Stages.{look}
 use Rattle.stages.specs.Denied.{GuestPageFault}
 use Rattle.stages.proofs.Raised.{every-fault}
 use Rattle.stages.proofs.Guarded.{guest-page-fault}
@@ -29,21 +28,16 @@ use Rattle.effective.specs.Effective.{root}
 use Rattle.translate.specs.declared.Answer.{Answer}
 use Rattle.translate.specs.declared.Start.the-variants.{Answered, Walks}
 use Rattle.translate.specs.declared.Translated.{Translated}
-use Rattle.translate.specs.Translated.{refusals, firstRefusal, unlessRefused, accessOf, startOf, answer, unwalked, concluded, translated}
+use Rattle.translate.specs.Translated.{refusals, firstRefusal, unlessRefused, accessOf, startOf, unwalked, concluded, translated}
 use Rattle.translate.specs.On.{secondOn}
 use Rattle.translate.specs.Causes.{causesOf}
 use Rattle.translate.proofs.On.{virtual, first-tables, second-levels}
-use Rattle.translate.proofs.Cases.{ranOf, AtOnce, refused, misaligned-by, each}
+use Rattle.translate.proofs.Cases.{fault-ended, ranOf, AtOnce, refused, misaligned-by, each}
 use Rattle.translate.proofs.Demand.{listed, listed-walk}
 
 -- the access's own of three causes
 own : (x y z : ℕ) → among x (causesOf Fetch) ≡ true → among y (causesOf Load) ≡ true → among z (causesOf Store) ≡ true → (k : Kind) → among (by k x y z) (causesOf k) ≡ true
 own x y z = each-kind (λ k. among (by k x y z) (causesOf k) ≡ true)
-
--- a fault answered is the walk's
-pub fault-ended : (o : Result Machine) (f : Exception) → answer o ≡ Answer.Fault f → o ≡ faults f
-fault-ended (yields m) f e = clash (cc)
-fault-ended (faults x) f e = let q : x ≡ f = cc in ap faults q
 
 module _ (h : Hart) (base : ℕ) (bytes : List ℕ) (kind : Kind) (address width : ℕ) where
   abbrev a : Access
