@@ -27,8 +27,10 @@
  *
  * A translation's result, 67 words (the hart stays as it is):
  *   0         0 an address, 1 a fault, 2 refused
- *   1         the address, the fault's cause, the refusal's number
- *   2 to 5    the fault's value, second value, instruction word and guest-address flag, else 0
+ *   1         the address, the fault's cause, the refusal's number. A fault's cause is its kind's own: 1, 12, 20 of a fetch, 4, 5, 13, 21
+ *             of a load, 6, 7, 15, 23 of a store
+ *   2 to 5    the fault's value, second value, instruction word and guest-address flag, else 0. The word is 3000 (hex) where the second
+ *             stage failed on the way to an entry of the guest's own tables, whose guest physical address the second value has
  *   6         how many entries were read
  *   7 to 66   fifteen places of four words, in the order of the reads: stage (1 first, 2 second), level, machine address, value;
  *             unused places are 0

@@ -352,6 +352,7 @@ fn index(number: u64) -> Option<usize> {
 #[cfg(test)]
 mod tests {
     use super::*;
+    use crate::{Answer, Kind};
 
     const EMPTY: Image<'static> = Image {
         base: 0,
@@ -498,5 +499,49 @@ mod tests {
             let refused = hypervisor().hlvx(image, width, 0x4008, 0);
             assert_eq!(refused.outcome, Outcome::Refused(3));
         }
+    }
+
+    /// The guest's root is on a page that the second stage does not let the hart read: the fault is the access's own.
+    #[test]
+    fn the_fault_of_a_guest_entry_is_that_of_the_access() {
+        let bytes = bytes(0xcf);
+        let image = Image {
+            base: BASE,
+            bytes: &bytes,
+        };
+        let mut hypervisor = hypervisor();
+        assert!(hypervisor.put_register(0x280, 8 << 60 | 4));
+        let mut guest = Hart::new(1, 1, 0x1000);
+        for (number, value) in hypervisor.registers() {
+            assert!(guest.put_register(number, value));
+        }
+        for (kind, cause) in [(Kind::Fetch, 20), (Kind::Load, 21), (Kind::Store, 23)] {
+            let access = Access {
+                kind,
+                address: 8,
+                width: 4,
+            };
+            let fault = Fault {
+                cause,
+                value: 8,
+                second: 0x1000,
+                word: 0x3000,
+                flag: true,
+            };
+            let translation = guest.translate(image, access);
+            assert_eq!(translation.answer(), Answer::Fault(fault));
+            let mut hart = guest.clone();
+            assert_eq!(hart.trap(fault), Outcome::Trapped(cause));
+            assert_eq!(hart.register(0x34a), Some(0x3000));
+        }
+        let loaded = hypervisor.clone().hlvx(image, 4, 8, 0);
+        assert_eq!(loaded.outcome, Outcome::Trapped(21));
+        let mut bytes = bytes;
+        let mut image = ImageMut {
+            base: BASE,
+            bytes: &mut bytes,
+        };
+        let stored = hypervisor.hsv(&mut image, 4, 8, 0, 0);
+        assert_eq!(stored.outcome, Outcome::Trapped(23));
     }
 }

@@ -63,13 +63,15 @@ pub struct Access {
 /// A fault, which is also a trap request.
 #[derive(Clone, Copy, Debug, PartialEq, Eq)]
 pub struct Fault {
-    /// The cause's number.
+    /// The cause's number. Of what a translation answers, its kind's own: 1, 12, 20 of a fetch, 4, 5, 13, 21 of a load, 6, 7, 15, 23
+    /// of a store.
     pub cause: u64,
     /// The value: the virtual address.
     pub value: u64,
     /// The second value: a guest physical address shifted right by 2.
     pub second: u64,
-    /// The instruction word.
+    /// The instruction word: 3000 (hex) where the second stage failed on the way to an entry of the guest's own tables, which the second
+    /// value names.
     pub word: u64,
     /// The guest-address flag.
     pub flag: bool,
