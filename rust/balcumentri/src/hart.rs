@@ -530,11 +530,12 @@ mod tests {
             };
             let translation = guest.translate(image, access);
             assert_eq!(translation.answer(), Answer::Fault(fault));
-            let mut hart = guest.clone();
+            let mut hart = guest;
             assert_eq!(hart.trap(fault), Outcome::Trapped(cause));
             assert_eq!(hart.register(0x34a), Some(0x3000));
         }
-        let loaded = hypervisor.clone().hlvx(image, 4, 8, 0);
+        let mut hart = hypervisor;
+        let loaded = hart.hlvx(image, 4, 8, 0);
         assert_eq!(loaded.outcome, Outcome::Trapped(21));
         let mut bytes = bytes;
         let mut image = ImageMut {
