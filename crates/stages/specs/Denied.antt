@@ -12,8 +12,9 @@ use Rattle.access.specs.declared.Root.{Root}
 use Rattle.stages.specs.declared.Read.{Read}
 use Rattle.stages.specs.Through.{Only, Leads, FirstResult}
 
--- The guest address that the second stage did not let through, with the fault's word: on the way to the guest entry to which the first stage has come by the
--- items listed, at its table t "plus 8 times the index", 3000 hex; for the access itself, at the first stage's result, 0.
+-- The guest address that the second stage did not let through, with the fault's word. A guest entry's, "its address goes through that before the read": the entry
+-- to which the first stage has come by the items listed, at its table t "plus 8 times the index", "with instruction word 00003000 hex". The access's own, "the
+-- first stage's result, or the access's address if vsatp is Bare": "Other .. words are 0".
 pub data Denied (root : Root) (address : ℕ) (xs : List Read) : (guest word : ℕ) → Type 0 where
   at-entry : (level t : ℕ) → 0 < root .levels → Leads (root .levels - 1) (root .ppn * 4096) xs level t → Denied root address xs (t + 8 * index first (root .levels) level address) 0x3000
   at-access : (earlier walk : List Read) (g : Guest) → xs ≡ earlier ++ walk → Only second walk → FirstResult root address earlier g → Denied root address xs (g .0) 0
