@@ -38,9 +38,14 @@ isBare x = eqb (get MODE x) 0
 abbrev pub off : Root
 off = record { levels = 0; ppn = 0 }
 
--- Those of satp, vsatp or hgatp: "its top level, 2 here", so three levels, "with the table at its register's PPN".
+-- How many levels a MODE's tables have: Bare's none, Sv39's three ("its top level, 2 here"), those of "Sv48 and Sv57, with Sv48x4 and Sv57x4 (MODE 9 and
+-- 10)" four and five (2026-05). A register holds no other MODE.
+unfoldable pub depth : ℕ → ℕ
+depth mode = pick (eqb mode 0) 0 (pick (eqb mode 8) 3 (pick (eqb mode 9) 4 5))
+
+-- the tables of satp, vsatp or hgatp: "with the table at its register's PPN"
 abbrev pub root : ℕ → Root
-root x = pick (isBare x) off (record { levels = 3; ppn = get PPN x })
+root x = record { levels = depth (get MODE x); ppn = get PPN x }
 
 -- "M, or stages in Bare, pass the address on. V=0 walks satp alone; V=1 walks vsatp, then hgatp."
 unfoldable pub firstRoot : Paging → EffectiveMode → Root

@@ -1,6 +1,6 @@
 // What an access takes from the hart: the mode it is made in, the stages that are on, and the bits that count.
 ghost use mathlib.Core.Path.{_≡_};
-ghost use Rattle.effective.specs.Effective.{effective, guestMode, root, off, firstRoot, secondRoot, inMode, plainAccess, guestAccess};
+ghost use Rattle.effective.specs.Effective.{effective, guestMode, depth, root, off, firstRoot, secondRoot, inMode, plainAccess, guestAccess};
 use access::Access;
 use access::Root;
 use privilege::Context;
@@ -57,15 +57,20 @@ fn off() -> Root
     Root { levels: 0, ppn: 0 }
 }
 
+// How many levels a MODE's tables have: Sv39's three, Sv48's four, Sv57's five.
+fn depth(mode: u64) -> u64
+    ensures { λ r. ⌜ r ≡ depth mode ⌝ }
+{
+    let levels = bits::select(mode == 8, 3, bits::select(mode == 9, 4, 5));
+    bits::select(mode == 0, 0, levels)
+}
+
 // The tables of satp, vsatp or hgatp.
 fn tables(x: u64) -> Root
     ensures { λ r. ⌜ r ≡ root x ⌝ }
 {
-    if fields::MODE.get(x) == 0 {
-        return off();
-    }
     Root {
-        levels: 3,
+        levels: depth(fields::MODE.get(x)),
         ppn: fields::PPN.get(x),
     }
 }

@@ -14,7 +14,7 @@ use Rattle.access.specs.Widths.{known}
 use Rattle.second_stage.specs.Place.{Tables}
 use Rattle.effective.specs.declared.Paging.{Paging}
 use Rattle.effective.specs.Effective.{guestMode}
-use Rattle.effective.proofs.Three.{first-three, second-three}
+use Rattle.effective.proofs.Roots.{first-five, second-five}
 use Rattle.hypervisor.specs.declared.Operation.{Operation}
 use Rattle.hypervisor.specs.declared.Operation.the-variants.{Hlv, Hlvx, Hsv}
 use Rattle.hypervisor.specs.Hypervisor.{offered, refusalOf, accessFor}
@@ -45,9 +45,9 @@ taken o base len width = go (unfit base len) (not (offered o width)) refl refl
     go false true p q e = absurd (omega (arith, e))
     go false false p q e = record { image = p; ends = fit base len p; form = offered-known o width (not-false _ q) }
 
--- its access goes by tables of at most three levels
-pub tables-for : (o : Operation) (c : Context) (p : Paging) (address width : ℕ) → let a = accessFor o c p address width in Tables a × (a .first .levels ≤ 3) × (a .second .levels ≤ 3)
+-- its access goes by tables of at most five levels
+pub tables-for : (o : Operation) (c : Context) (p : Paging) (address width : ℕ) → Tables (accessFor o c p address width)
 tables-for o c p address width =
-    let f = first-three p (guestMode c) in
-    let s = second-three p (guestMode c) in
-    (record { first = omega (arith, f .levels); second = omega (arith, s .levels); firstRoot = f .ppn; secondRoot = s .ppn }, f .levels, s .levels)
+    let f = first-five p (guestMode c) in
+    let s = second-five p (guestMode c) in
+    record { first = f .levels; second = s .levels; firstRoot = f .ppn; secondRoot = s .ppn }

@@ -33,6 +33,7 @@ use Rattle.stages.specs.Denied.{GuestPageFault}
 use Rattle.stages.proofs.Raised.{every-fault}
 use Rattle.stages.proofs.Guarded.{guest-page-fault}
 use Rattle.effective.specs.Effective.{isBare, root, firstRoot, secondRoot}
+use Rattle.effective.proofs.Roots.{on-depth}
 use Rattle.hypervisor.specs.declared.Operation.{Operation}
 use Rattle.hypervisor.specs.declared.Operation.the-variants.{Hlv, Hlvx, Hsv}
 use Rattle.hypervisor.specs.Hypervisor.{End, byOperation, kindOf, refusalOf, accessFor, walkFor}
@@ -224,7 +225,7 @@ module _ (h : Hart) (o : Operation) (base : ℕ) (bytes : List ℕ) (width addre
             → let w = pick b (misaligned-one a) (run (look base bytes) (walkOf base (length bytes) a)) in
             w .end ≡ faults f → GuestPageFault (root (reg h vsatp)) (kindOf o) address true (w .reads) f
         met f c true q = let k : f ≡ misalignment a = cc in not-high (misalignment a) f k (misalignment-low a) c
-        met f c false q = guest-page-fault (look base bytes) base (length bytes) a (rw on (omega arith)) f q c
+        met f c false q = guest-page-fault (look base bytes) base (length bytes) a (on-depth (reg h hgatp) on) f q c
 
         by-end : passes h ≡ true → eqb (h .v) 1 ≡ false → (x : End) → walked .end ≡ x → Told (arrived h (record { end = x; reads = walked .reads }))
         by-end p v (yields m) q t = clash (cc)

@@ -26,7 +26,7 @@ use Rattle.rules.specs.declared.Kind.the-variants.{Load}
 use Rattle.rules.specs.Address.{first, wellFormed, extended, small, index}
 use Rattle.rules.specs.Entry.{malformed, badPointer, badLeaf, faulty, judged}
 use Rattle.access.specs.declared.Machine.{Machine}
-use Rattle.effective.specs.Effective.{firstRoot, secondRoot}
+use Rattle.effective.specs.Effective.{depth, firstRoot, secondRoot}
 use Rattle.translate.specs.Translated.{accessOf}
 use Rattle.stages.specs.declared.Read.{Read}
 use Rattle.stages.specs.Tree.{Ran, bind, run}
@@ -106,5 +106,5 @@ replays =
     mret stays any-word .hart .privilege gives 3 ∷ []
 
 pub known : every (λ i (r : Replay). eqb (r .answer) (r .expected)) 0 replays ≡ true
-unfolding every get put legal stored firstAt registersPass passes deliveredM deliveredHS deliveredVS delivered settled returnedM mret written accessRow access firstRoot secondRoot accessOf run bind walkOf final begin down inspect follow index extended small judged malformed badPointer badLeaf faulty
+unfolding every get put legal stored firstAt registersPass passes deliveredM deliveredHS deliveredVS delivered settled returnedM mret written accessRow access depth firstRoot secondRoot accessOf run bind walkOf final begin down inspect follow index extended small judged malformed badPointer badLeaf faulty
 known = refl

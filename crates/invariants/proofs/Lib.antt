@@ -13,6 +13,7 @@ pub mod Sides
 pub mod Guest
 pub mod Learns
 pub mod Known
+pub mod Depths
 pub mod Worked
 pub mod Reaching
 pub mod Told

@@ -3,8 +3,8 @@ use mathlib.Core.Path.{_≡_, refl, sym, ap, subst, _∙_}
 use mathlib.Core.Bool.{Bool, true, false, _||_, not}
 use mathlib.Core.List.{List, [], _∷_, _++_}
 use mathlib.Core.Logic.{_⊎_, inl, inr}
-use Prim.Native.Nat.{ℕ, suc, _+_, _-_, _*_, _%_, _<_, _≤_}
-use native.Mathlib.Nat.{mul-le-mul, zero-mul}
+use Prim.Native.Nat.{ℕ, _-_, _*_, _%_, _<_, _≤_, zero-le}
+use native.Mathlib.Nat.{mul-one, one-mul}
 use native.Mathlib.Omega.{arith}
 use lib.Dec.{eqb}
 use lib.ListN.{length, take, drop}
@@ -12,7 +12,7 @@ use lib.Seq.{take-append-seam, drop-append-seam}
 use borrow.Author.Tests.{eqb-true, not-false}
 use Rattle.bits.specs.Field.{pick, get}
 use Rattle.bits.proofs.Bools.{clash}
-use Rattle.registers.specs.Fields.{MXR, HU}
+use Rattle.registers.specs.Fields.{MXR, HU, MODE}
 use Rattle.registers.specs.Places.{vsatp, hgatp, mstatus, hstatus}
 use Rattle.privilege.specs.Mode.{isSet}
 use Rattle.privilege.specs.declared.Verdict.{Verdict}
@@ -27,12 +27,13 @@ use Rattle.access.proofs.Widths.{Aligned, a-power}
 use Rattle.stages.specs.declared.Read.{Read}
 use Rattle.stages.specs.Tree.{Ran, run}
 use Rattle.stages.specs.Stages.{yields, faults, look, machine, walkOf}
-use Rattle.stages.specs.Listed.{places, unused}
+use Rattle.stages.specs.Listed.{places, most, unused}
 use Rattle.stages.specs.Through.{Agree, Shown, ownRight, GuestEntry, AnsweredThrough}
-use Rattle.stages.proofs.Bounds.{at-most}
+use Rattle.stages.proofs.Bounds.{most-places, at-most}
 use Rattle.stages.proofs.Images.{same-walk, shown-run}
 use Rattle.stages.proofs.Guarded.{guarded}
-use Rattle.effective.specs.Effective.{isBare, root, secondRoot, firstRoot}
+use Rattle.effective.specs.Effective.{isBare, depth, root, secondRoot, firstRoot}
+use Rattle.effective.proofs.Roots.{bare-depth, on-depth}
 use Rattle.hypervisor.specs.declared.Operation.{Operation}
 use Rattle.hypervisor.specs.declared.Operation.the-variants.{Hlv, Hlvx, Hsv}
 use Rattle.hypervisor.specs.Hypervisor.{End, byOperation, kindOf, refusalOf, accessFor, walkFor}
@@ -141,32 +142,24 @@ module _ (h : Hart) (o : Operation) (base : ℕ) (bytes : List ℕ) (width addre
     host-goes v (inl s) = rw (p, own, v, s)
     host-goes v (inr m) = rw (p, own, v, m)
 
-  -- n first-stage levels over m second-stage levels: at most (n + 1) (m + 1) - 1 reads
-  count-bound : r .count ≤ accessed .first .levels * suc (accessed .second .levels) + accessed .second .levels
-  count-bound = each (λ (x : Reach). x .count ≤ accessed .first .levels * suc (accessed .second .levels) + accessed .second .levels) (λ s d. omega arith) (λ p k. at-most accessed base (length bytes) (look base bytes))
+  -- "n levels over m levels read at most (n+1)(m+1)-1 entries": vsatp's tables over hgatp's, Bare's 0 deep
+  pub both-stages : r .count ≤ most (depth (get MODE (reg h vsatp))) (depth (get MODE (reg h hgatp)))
+  unfolding firstRoot secondRoot
+  both-stages = each (λ (x : Reach). x .count ≤ most (depth (get MODE (reg h vsatp))) (depth (get MODE (reg h hgatp)))) (λ s d. zero-le) (λ p k. at-most accessed base (length bytes) (look base bytes))
 
-  pub both-stages : r .count ≤ 15
-  both-stages =
-      let k = tables-for o (context h) (paging h) address width in
-      let m : accessed .first .levels * suc (accessed .second .levels) ≤ 3 * 4 = mul-le-mul {m₂ = 4} (k .1) (omega (arith, k .2)) in
-      omega (arith, count-bound, k .2)
+  pub first-alone : isBare (reg h hgatp) ≡ true → r .count ≤ depth (get MODE (reg h vsatp))
+  first-alone e = omega (arith, rw (bare-depth (reg h hgatp) e, mul-one) at both-stages)
 
-  first-off : isBare (reg h vsatp) ≡ true → accessed .first .levels ≡ 0
-  unfolding firstRoot
-  first-off e = rw e
-
-  second-off : isBare (reg h hgatp) ≡ true → accessed .second .levels ≡ 0
-  unfolding secondRoot
-  second-off e = rw e
-
-  pub first-alone : isBare (reg h hgatp) ≡ true → r .count ≤ 3
-  first-alone e = let k = tables-for o (context h) (paging h) address width in omega (arith, rw (second-off e) at count-bound, k .1)
-
-  pub second-alone : isBare (reg h vsatp) ≡ true → r .count ≤ 3
-  second-alone e = let k = tables-for o (context h) (paging h) address width in omega (arith, rw (first-off e, zero-mul) at count-bound, k .2)
+  pub second-alone : isBare (reg h vsatp) ≡ true → r .count ≤ depth (get MODE (reg h hgatp))
+  second-alone e = omega (arith, rw (bare-depth (reg h vsatp) e, one-mul) at both-stages)
 
   pub no-stage : isBare (reg h vsatp) ≡ true → isBare (reg h hgatp) ≡ true → r .count ≡ 0
-  no-stage e f = omega (arith, rw (first-off e, second-off f) at count-bound)
+  no-stage e f = omega (arith, rw (bare-depth (reg h vsatp) e, bare-depth (reg h hgatp) f) at both-stages)
+
+  -- the list has a place for each
+  pub in-places : r .count ≤ places
+  unfolding firstRoot secondRoot
+  in-places = let k = tables-for o (context h) (paging h) address width in omega (arith, most-places _ _ (k .first) (k .second), both-stages)
 
   -- the places beyond the count are zero
   pub beyond-count : drop (r .count) (r .reads) ≡ unused (places - r .count)
@@ -192,7 +185,7 @@ module _ (h : Hart) (o : Operation) (base : ℕ) (bytes : List ℕ) (width addre
 
     second-on : 0 < accessed .second .levels
     unfolding secondRoot
-    second-on = rw on (omega arith)
+    second-on = on-depth (reg h hgatp) on
 
     -- each guest entry listed is on a page that the second-stage walk directly before it let through with R and U, of HLVX too
     pub guest-entries : (earlier : List Read) (x : Read) (later : List Read) → listed r ≡ earlier ++ (x ∷ later) → x .stage ≡ 1 → GuestEntry vs g address (vs .levels - 1) (vs .ppn * 4096) earlier x

@@ -21,7 +21,7 @@ use Rattle.image.specs.Data.{little, bytesAt, extended, loaded, stored}
 use Rattle.rules.specs.Address as addresses
 use Rattle.rules.specs.Entry.{malformed, badPointer, badLeaf, faulty, judged}
 use Rattle.access.specs.declared.Machine.{Machine}
-use Rattle.effective.specs.Effective.{firstRoot, secondRoot}
+use Rattle.effective.specs.Effective.{depth, firstRoot, secondRoot}
 use Rattle.stages.specs.Tree.{Ran, bind, run}
 use Rattle.stages.specs.Stages.{yields, faults, follow, inspect, down, begin, last, final, walkOf}
 use Rattle.hypervisor.specs.declared.Operation.{Operation}
@@ -304,5 +304,5 @@ cases =
     reg (entry-fault Hsv) mtinst gives 0x3000 ∷ []
 
 pub reaching : every (λ i (r : Replay). eqb (r .answer) (r .expected)) 0 cases ≡ true
-unfolding every get put legal registersPass passes deliveredM deliveredHS delivered reach load hsv refusalOf walkFor unfit within loaded stored firstRoot secondRoot run bind walkOf final last begin down inspect follow addresses.index addresses.extended addresses.small judged malformed badPointer badLeaf faulty
+unfolding every get put legal registersPass passes deliveredM deliveredHS delivered reach load hsv refusalOf walkFor unfit within loaded stored depth firstRoot secondRoot run bind walkOf final last begin down inspect follow addresses.index addresses.extended addresses.small judged malformed badPointer badLeaf faulty
 reaching = refl

@@ -77,13 +77,17 @@ stores-tvec = stores (bits (span 63 2 ∷ bit 0 ∷ [])) 0
 abbrev pub stores-epc : Rule
 stores-epc = stores (bits (span 63 2 ∷ [])) 0
 
--- satp, vsatp: MODE 0 or 8, else the whole write does nothing
-abbrev pub stores-satp : Rule
-stores-satp = record { mask = top; fixed = 0; restriction = ignores MODE (0 ∷ 8 ∷ []) }
+-- MODE: Bare, Sv39, and "Sv48 and Sv57, with Sv48x4 and Sv57x4 (MODE 9 and 10)" (2026-05): "stored bits and check 2 accept the new modes"
+abbrev pub modes : List ℕ
+modes = 0 ∷ 8 ∷ 9 ∷ 10 ∷ []
 
--- hgatp: MODE is 0 or 8, another MODE keeps the old one while VMID and PPN are written; bits 59:58 and 1:0 are zero
+-- satp, vsatp: one of these, else the whole write does nothing
+abbrev pub stores-satp : Rule
+stores-satp = record { mask = top; fixed = 0; restriction = ignores MODE modes }
+
+-- hgatp: MODE is one of these, another MODE keeps the old one while VMID and PPN are written; bits 59:58 and 1:0 are zero
 abbrev pub stores-hgatp : Rule
-stores-hgatp = record { mask = bits (MODE ∷ VMID ∷ span 43 2 ∷ []); fixed = 0; restriction = keeps MODE (0 ∷ 8 ∷ []) }
+stores-hgatp = record { mask = bits (MODE ∷ VMID ∷ span 43 2 ∷ []); fixed = 0; restriction = keeps MODE modes }
 
 -- the interrupts of S, of VS and of M: software, timer and external
 abbrev pub ofS : List Field

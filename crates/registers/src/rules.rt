@@ -7,7 +7,7 @@ ghost use lib.Bits.{bitAnd};
 ghost use lib.Dec.{eqb};
 ghost use Rattle.bits.specs.Field.{top, get};
 ghost use Rattle.registers.specs.Fields.{MPP, MODE};
-ghost use Rattle.registers.specs.Rules.{among, taken, legal, rule, stores-mstatus, stores-status, stores-hstatus, stores-hedeleg, stores-medeleg, stores-mideleg, stores-hideleg, stores-interrupts, stores-tvec, stores-epc, stores-satp, stores-hgatp};
+ghost use Rattle.registers.specs.Rules.{among, taken, legal, rule, modes, stores-mstatus, stores-status, stores-hstatus, stores-hedeleg, stores-medeleg, stores-mideleg, stores-hideleg, stores-interrupts, stores-tvec, stores-epc, stores-satp, stores-hgatp};
 use crate::fields::MODE;
 use crate::fields::MPP;
 use crate::masks;
@@ -31,12 +31,12 @@ fn mpp_fits(x: u64) -> bool
     (p == 3) | (p == 1) | (p == 0)
 }
 
-// MODE is Bare or Sv39 (Sv39x4 in hgatp).
+// MODE is Bare, Sv39, Sv48 or Sv57 (in hgatp Sv39x4, Sv48x4 or Sv57x4).
 fn mode_fits(x: u64) -> bool
-    ensures { λ r. ⌜ r ≡ among (get MODE x) (0 ∷ 8 ∷ []) ⌝ }
+    ensures { λ r. ⌜ r ≡ among (get MODE x) modes ⌝ }
 {
     let m = MODE.get(x);
-    (m == 8) | (m == 0)
+    (m == 10) | (m == 9) | (m == 8) | (m == 0)
 }
 
 // What the register at a place, which held old, comes to hold where x is to go into it.

@@ -2,7 +2,7 @@
 use mathlib.Core.Path.{_≡_}
 use mathlib.Core.Bool.{Bool, true, false}
 use Prim.Native.Nat.{ℕ, zero, suc, _+_, _*_, _≤_, zero-le, suc-le-suc}
-use native.Mathlib.Nat.{add-comm, suc-add, zero-mul, suc-mul, add-zero, mul-one}
+use native.Mathlib.Nat.{add-comm, suc-add, zero-mul, suc-mul, add-zero, mul-one, mul-le-mul}
 use native.Mathlib.Omega.{arith}
 use lib.ListN.{length}
 use Rattle.bits.specs.Field.{pick}
@@ -21,6 +21,7 @@ use Rattle.access.specs.Needs.{secondNeed}
 use Rattle.access.specs.Faults.{guestPageFault}
 use Rattle.stages.specs.Tree.{Walk, done, ask, bind, item, listed, found, run}
 use Rattle.stages.specs.Stages.{Result, yields, faults, Translation, _then_, follow, inspect, down, begin, translation, second-of, first-of, last, final, walkOf}
+use Rattle.stages.specs.Listed.{places, most}
 
 -- a walk asks at most n times on any way
 abbrev pub Within : {A : Type 0} → Walk A → ℕ → Type 0
@@ -82,6 +83,14 @@ module _ {A : Type 0} (t : Translation A) (k : ℕ) (through : (x : ℕ) → Wit
 
 -- ---- both stages
 
+-- a second stage for each of the first's entries and for what it yields
+pub most-sum : (n m : ℕ) → most n m ≡ n * suc m + m
+most-sum n m = rw suc-mul (omega arith)
+
+-- the list has places for five levels over five
+pub most-places : (n m : ℕ) → n ≤ 5 → m ≤ 5 → most n m ≤ places
+most-places n m f s = let p : suc n * suc m ≤ 6 * 6 = mul-le-mul (suc-le-suc f) (suc-le-suc s) in omega (arith, p)
+
 module _ (a : Access) where
   within-second : (n : Need) (f : Exception) (g : Guest) → Within (translation (second-of a n f g)) (a .second .levels)
   within-second n f g = rw mul-one at (within-begin (second-of a n f g) 0 (λ x. tt) (a .second .levels))
@@ -93,11 +102,12 @@ module _ (a : Access) where
       rw add-zero at (within-then w (λ m. done (last base len a m)) (a .second .levels) 0 (within-second _ _ g) (λ m. tt))
 
   -- n levels over m read at most (n + 1) (m + 1) - 1 entries
-  pub within-walk : (base len : ℕ) → Within (walkOf base len a) (a .first .levels * suc (a .second .levels) + a .second .levels)
+  pub within-walk : (base len : ℕ) → Within (walkOf base len a) (most (a .first .levels) (a .second .levels))
   unfolding walkOf
   within-walk base len =
-      within-then (translation (first-of a)) (final base len a) (a .first .levels * suc (a .second .levels)) (a .second .levels)
-      (within-begin (first-of a) (a .second .levels) (λ x. within-second _ _ _) (a .first .levels)) (within-final base len)
+      rw (most-sum (a .first .levels) (a .second .levels))
+      (within-then (translation (first-of a)) (final base len a) (a .first .levels * suc (a .second .levels)) (a .second .levels)
+      (within-begin (first-of a) (a .second .levels) (λ x. within-second _ _ _) (a .first .levels)) (within-final base len))
 
-  pub at-most : (base len : ℕ) (look : Machine → Entry) → length (run look (walkOf base len a) .reads) ≤ a .first .levels * suc (a .second .levels) + a .second .levels
+  pub at-most : (base len : ℕ) (look : Machine → Entry) → length (run look (walkOf base len a) .reads) ≤ most (a .first .levels) (a .second .levels)
   at-most base len look = within-run look (walkOf base len a) _ (within-walk base len)

@@ -1,14 +1,18 @@
 -- The list of reads in an array, and as words.
 use mathlib.Core.List.{List, [], _∷_, _++_}
-use Prim.Native.Nat.{ℕ, _-_}
+use Prim.Native.Nat.{ℕ, suc, _-_, _*_}
 use lib.ListN.{length, replicate}
 use Rattle.stages.specs.declared.Read.{Read}
 use Rattle.stages.specs.Tree.{item}
 use Rattle.stages.specs.Stages.{machine}
 
--- "The list of reads holds fifteen places"
+-- "the list of reads grows to thirty-five places" (2026-05)
 abbrev pub places : ℕ
-places = 15
+places = 35
+
+-- "n levels over m levels read at most (n+1)(m+1)-1 entries" (2026-05)
+abbrev pub most : ℕ → ℕ → ℕ
+most n m = suc n * suc m - 1
 
 -- "unused places are zero"
 abbrev pub unused : ℕ → List Read

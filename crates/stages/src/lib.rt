@@ -2,7 +2,7 @@
 use access::Machine;
 
 // How many places the list of reads has.
-pub const PLACES: usize = 15;
+pub const PLACES: usize = 35;
 
 // One entry of the list; its stage is 1 for the first, 2 for the second.
 pub struct Read {

@@ -26,7 +26,7 @@ use Rattle.stages.specs.Stages.{Result, yields, faults, look, walkOf}
 use Rattle.second_stage.specs.Place.{Tables}
 use Rattle.second_stage.specs.Words.{reached, result}
 use Rattle.effective.specs.Effective.{effective}
-use Rattle.effective.proofs.Three.{first-three, second-three}
+use Rattle.effective.proofs.Roots.{first-five, second-five}
 use Rattle.translate.specs.declared.Answer.{Answer}
 use Rattle.translate.specs.declared.Start.the-variants.{Answered, Walks}
 use Rattle.translate.specs.Translated.{unsupported, firstRefusal, unlessRefused, accessOf, startOf, answer, unwalked, walkedTo, translated}
@@ -66,13 +66,13 @@ aligned Fetch address width h k =
 aligned Load address width h k = a-power address width (known-width Load address width h) (equal (address % width) 0 k)
 aligned Store address width h k = a-power address width (known-width Store address width h) (equal (address % width) 0 k)
 
--- tables of at most three levels
-pub tables-of : (h : Hart) (kind : Kind) (address width : ℕ) → let a = accessOf h kind address width in Tables a × (a .first .levels ≤ 3) × (a .second .levels ≤ 3)
+-- tables of at most five levels
+pub tables-of : (h : Hart) (kind : Kind) (address width : ℕ) → Tables (accessOf h kind address width)
 unfolding accessOf
 tables-of h kind address width =
-    let f = first-three (paging h) (effective (context h) kind) in
-    let s = second-three (paging h) (effective (context h) kind) in
-    (record { first = omega (arith, f .levels); second = omega (arith, s .levels); firstRoot = f .ppn; secondRoot = s .ppn }, f .levels, s .levels)
+    let f = first-five (paging h) (effective (context h) kind) in
+    let s = second-five (paging h) (effective (context h) kind) in
+    record { first = f .levels; second = s .levels; firstRoot = f .ppn; secondRoot = s .ppn }
 
 -- a walk's result gives the same answer as the code has it
 pub same-answer : (o : Result Machine) → answer (result (reached o)) ≡ answer o
@@ -92,8 +92,6 @@ module _ (h : Hart) (base : ℕ) (bytes : List ℕ) (kind : Kind) (address width
     pub translates : translated h base bytes kind address width ≡ walkedTo h (run (look base bytes) (walkOf base (length bytes) a))
     pub ends : base + length bytes ≤ 2 ^ 56
     pub tables : Tables a
-    pub first : a .first .levels ≤ 3
-    pub second : a .second .levels ≤ 3
 
   -- a walk is for the access itself, over an image that fits
   walks : (a : Access) → startOf h base (length bytes) kind address width ≡ Walks a → (accessOf h kind address width ≡ a) × (unfit base (length bytes) ≡ false)
@@ -115,5 +113,4 @@ module _ (h : Hart) (base : ℕ) (bytes : List ℕ) (kind : Kind) (address width
   unfolding translated
   walking a s =
       let w = walks a s in
-      let t = subst (λ (x : Access). Tables x × (x .first .levels ≤ 3) × (x .second .levels ≤ 3)) (w .0) (tables-of h kind address width) in
-      record { translates = rw s; ends = fit base (length bytes) (w .1); tables = t .0; first = t .1; second = t .2 }
+      record { translates = rw s; ends = fit base (length bytes) (w .1); tables = subst Tables (w .0) (tables-of h kind address width) }

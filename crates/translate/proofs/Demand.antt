@@ -2,18 +2,18 @@
 use mathlib.Core.Path.{_≡_, refl, sym, ap, subst, _∙_}
 use mathlib.Core.Bool.{Bool, true, false}
 use mathlib.Core.List.{List, [], _∷_, _++_}
-use Prim.Native.Nat.{ℕ, zero, suc, _+_, _-_, _*_, _<_, _≤_}
-use native.Mathlib.Nat.{mul-le-mul, zero-mul}
+use Prim.Native.Nat.{ℕ, zero, suc, _-_, _*_, _<_, _≤_, zero-le}
+use native.Mathlib.Nat.{mul-one, one-mul}
 use native.Mathlib.Omega.{arith}
 use lib.ListN.{length, take, drop}
 use lib.Seq.{take-append-seam, drop-append-seam}
-use Rattle.bits.specs.Field.{pick}
+use Rattle.bits.specs.Field.{pick, get}
 use Rattle.bits.proofs.Bools.{clash}
-use Rattle.registers.specs.Fields.{MXR}
+use Rattle.registers.specs.Fields.{MXR, MODE}
 use Rattle.registers.specs.Places.{vsatp, hgatp, mstatus}
 use Rattle.privilege.specs.Mode.{isSet}
 use Rattle.hart.specs.declared.state.Hart.{Hart}
-use Rattle.hart.specs.Hart.{reg, passes}
+use Rattle.hart.specs.Hart.{reg, context, passes}
 use Rattle.image.specs.Image.{unfit}
 use Rattle.rules.specs.declared.Kind.{Kind}
 use Rattle.rules.specs.declared.Right.{Right}
@@ -26,20 +26,20 @@ use Rattle.access.specs.Faults.{misalignment}
 use Rattle.stages.specs.declared.Read.{Read}
 use Rattle.stages.specs.Tree.{Ran, run}
 use Rattle.stages.specs.Stages.{Result, yields, faults, look, walkOf}
-use Rattle.stages.specs.Listed.{places, unused}
+use Rattle.stages.specs.Listed.{places, most, unused}
 use Rattle.stages.specs.Through.{Agree, Shown, ownRight, GuestEntry, AnsweredThrough}
-use Rattle.stages.proofs.Bounds.{at-most}
+use Rattle.stages.proofs.Bounds.{most-places, at-most}
 use Rattle.stages.proofs.Images.{same-walk, shown-run}
 use Rattle.stages.proofs.Guarded.{guarded}
 use Rattle.translate.specs.declared.Answer.{Answer}
 use Rattle.translate.specs.declared.Start.{Start}
 use Rattle.translate.specs.declared.Start.the-variants.{Answered, Walks}
 use Rattle.translate.specs.declared.Translated.{Translated}
-use Rattle.effective.specs.Effective.{root}
+use Rattle.effective.specs.Effective.{effective, depth, root}
 use Rattle.translate.specs.Translated.{unsupported, refusals, firstRefusal, refusal, unlessRefused, accessOf, startOf, answer, unwalked, walkedTo, concluded, translated}
-use Rattle.translate.specs.On.{firstOn, secondOn}
+use Rattle.translate.specs.On.{firstOn, secondOn, firstDepth, secondDepth}
 use Rattle.translate.proofs.Accesses.{tables-of}
-use Rattle.translate.proofs.On.{first-off, second-off, first-tables, second-tables, second-levels}
+use Rattle.translate.proofs.On.{first-depth, second-depth, first-off, second-off, first-tables, second-tables, second-levels}
 use Rattle.translate.proofs.Cases.{ranOf, AtOnce, refused, misaligned-by, each}
 
 -- the items listed: the places up to the count
@@ -109,24 +109,30 @@ module _ (h : Hart) (base : ℕ) (bytes : List ℕ) (kind : Kind) (address width
       at-once x (refused n) q = absurd (omega arith)
       at-once x (misaligned-by p) q = p
 
-  -- n first-stage levels over m second-stage levels: at most (n + 1) (m + 1) - 1 reads; a stage that is off has none
-  pub count-bound : t .count ≤ a .first .levels * suc (a .second .levels) + a .second .levels
-  count-bound = each h base bytes kind address width (λ (x : Translated). x .count ≤ a .first .levels * suc (a .second .levels) + a .second .levels) (λ x e. omega arith) (λ p k. at-most a base (length bytes) (look base bytes))
+  -- "n levels over m levels read at most (n+1)(m+1)-1 entries": as deep as the registers that the access walks say, 0 where it walks none or Bare
+  pub count-bound : t .count ≤ most (firstDepth h kind) (secondDepth h kind)
+  count-bound =
+      rw (first-depth h kind address width, second-depth h kind address width) at
+      (each h base bytes kind address width (λ (x : Translated). x .count ≤ most (a .first .levels) (a .second .levels)) (λ x e. zero-le) (λ p k. at-most a base (length bytes) (look base bytes)))
 
-  pub both-stages : t .count ≤ 15
-  both-stages =
-      let k = tables-of h kind address width in
-      let m : a .first .levels * suc (a .second .levels) ≤ 3 * 4 = mul-le-mul {m₂ = 4} (k .1) (omega (arith, k .2)) in
-      omega (arith, count-bound, k .2)
+  -- vsatp's tables over hgatp's
+  pub both-stages : effective (context h) kind .v ≡ true → t .count ≤ most (depth (get MODE (reg h vsatp))) (depth (get MODE (reg h hgatp)))
+  both-stages v = rw v at count-bound
 
-  pub first-alone : secondOn h kind ≡ false → t .count ≤ 3
-  first-alone off = let k = tables-of h kind address width in omega (arith, rw (second-off h kind address width off) at count-bound, k .1)
+  pub first-alone : secondOn h kind ≡ false → t .count ≤ firstDepth h kind
+  first-alone off = omega (arith, rw (second-off h kind address width off, mul-one) at count-bound)
 
-  pub second-alone : firstOn h kind ≡ false → t .count ≤ 3
-  second-alone off = let k = tables-of h kind address width in omega (arith, rw (first-off h kind address width off, zero-mul) at count-bound, k .2)
+  pub second-alone : firstOn h kind ≡ false → t .count ≤ secondDepth h kind
+  second-alone off = omega (arith, rw (first-off h kind address width off, one-mul) at count-bound)
 
   pub no-stage : firstOn h kind ≡ false → secondOn h kind ≡ false → t .count ≡ 0
   no-stage off off′ = omega (arith, rw (first-off h kind address width off, second-off h kind address width off′) at count-bound)
+
+  -- the list has a place for each
+  pub in-places : t .count ≤ places
+  in-places =
+      let k = tables-of h kind address width in
+      omega (arith, rw (first-depth h kind address width, second-depth h kind address width) at (most-places _ _ (k .first) (k .second)), count-bound)
 
   -- the places beyond the count are zero
   pub beyond-count : drop (t .count) (t .reads) ≡ unused (places - t .count)

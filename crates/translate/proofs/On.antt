@@ -2,7 +2,6 @@
 use mathlib.Core.Path.{_≡_, refl}
 use mathlib.Core.Bool.{Bool, true, false, _&&_, not}
 use Prim.Native.Nat.{ℕ, _<_}
-use native.Mathlib.Omega.{arith}
 use lib.Dec.{eqb}
 use borrow.Author.Tests.{not-true, not-false}
 use Rattle.bits.specs.Field.{pick}
@@ -13,33 +12,45 @@ use Rattle.hart.specs.Hart.{reg, context}
 use Rattle.rules.specs.declared.Kind.{Kind}
 use Rattle.access.specs.declared.Access.{Access}
 use Rattle.effective.specs.Effective.{effective, isBare, root, off, firstRoot, secondRoot}
+use Rattle.effective.proofs.Roots.{bare-depth, on-depth}
 use Rattle.translate.specs.Translated.{accessOf}
-use Rattle.translate.specs.On.{firstOn, secondOn}
-
--- tables in Bare have no levels
-bare-levels : (x : ℕ) → not (isBare x) ≡ false → root x .levels ≡ 0
-bare-levels x e = rw (not-false (isBare x) e)
+use Rattle.translate.specs.On.{firstOn, secondOn, firstDepth, secondDepth}
 
 module _ (h : Hart) (kind : Kind) (address width : ℕ) where
   abbrev a : Access
   a = accessOf h kind address width
 
-  pub first-off : firstOn h kind ≡ false → a .first .levels ≡ 0
+  -- the access's tables are as deep as the registers that it walks say
+  pub first-depth : a .first .levels ≡ firstDepth h kind
   unfolding accessOf firstRoot
+  first-depth = go (effective (context h) kind .v) (eqb (effective (context h) kind .privilege) 3)
+    where
+      go : (v m : Bool) → pick v (root (reg h vsatp)) (pick m off (root (reg h satp))) .levels ≡ pick v (root (reg h vsatp) .levels) (pick m 0 (root (reg h satp) .levels))
+      go true m = refl
+      go false true = refl
+      go false false = refl
+
+  pub second-depth : a .second .levels ≡ secondDepth h kind
+  unfolding accessOf secondRoot
+  second-depth = go (effective (context h) kind .v)
+    where
+      go : (v : Bool) → pick v (root (reg h hgatp)) off .levels ≡ pick v (root (reg h hgatp) .levels) 0
+      go true = refl
+      go false = refl
+
+  pub first-off : firstOn h kind ≡ false → firstDepth h kind ≡ 0
   first-off = go (effective (context h) kind .v) (eqb (effective (context h) kind .privilege) 3)
     where
-      go : (v m : Bool) → pick v (not (isBare (reg h vsatp))) (not m && not (isBare (reg h satp))) ≡ false
-          → pick v (root (reg h vsatp)) (pick m off (root (reg h satp))) .levels ≡ 0
-      go true m e = bare-levels (reg h vsatp) e
+      go : (v m : Bool) → pick v (not (isBare (reg h vsatp))) (not m && not (isBare (reg h satp))) ≡ false → pick v (root (reg h vsatp) .levels) (pick m 0 (root (reg h satp) .levels)) ≡ 0
+      go true m e = bare-depth (reg h vsatp) (not-false _ e)
       go false true e = refl
-      go false false e = bare-levels (reg h satp) e
+      go false false e = bare-depth (reg h satp) (not-false _ e)
 
-  pub second-off : secondOn h kind ≡ false → a .second .levels ≡ 0
-  unfolding accessOf secondRoot
+  pub second-off : secondOn h kind ≡ false → secondDepth h kind ≡ 0
   second-off = go (effective (context h) kind .v)
     where
-      go : (v : Bool) → (v && not (isBare (reg h hgatp))) ≡ false → pick v (root (reg h hgatp)) off .levels ≡ 0
-      go true e = bare-levels (reg h hgatp) e
+      go : (v : Bool) → (v && not (isBare (reg h hgatp))) ≡ false → pick v (root (reg h hgatp) .levels) 0 ≡ 0
+      go true e = bare-depth (reg h hgatp) (not-false _ e)
       go false e = refl
 
   module _ (on : secondOn h kind ≡ true) where
@@ -56,4 +67,4 @@ module _ (h : Hart) (kind : Kind) (address width : ℕ) where
     second-tables = rw virtual
 
     pub second-levels : 0 < a .second .levels
-    second-levels = rw (second-tables, not-true (isBare (reg h hgatp)) (and-right (effective (context h) kind .v) _ on)) (omega arith)
+    second-levels = rw second-tables (on-depth (reg h hgatp) (not-true (isBare (reg h hgatp)) (and-right (effective (context h) kind .v) _ on)))

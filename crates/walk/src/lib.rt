@@ -54,7 +54,7 @@ fn pack(words: &[u64]) -> [Read; PLACES]
 
 // The walk of an access over an image.
 pub fn walk(base: u64, bytes: &[u8], a: Access) -> Walked
-    requires { ⌜ (base + length (now bytes) ≤ 2 ^ 56) × Tables a × (a .first .levels ≤ 3) × (a .second .levels ≤ 3) ⌝ }
+    requires { ⌜ (base + length (now bytes) ≤ 2 ^ 56) × Tables a ⌝ }
     ensures { λ r. ⌜ r ≡ walked (run (look base (now (bytes .entry))) (walkOf base (length (now (bytes .entry))) a)) ⌝ }
 {
     let mut words = [0u64; 4 * PLACES];

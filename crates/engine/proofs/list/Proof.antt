@@ -8,10 +8,10 @@ use borrow.Author.Needs.{needs}
 use Rattle.access.specs.declared.Machine.{Machine}
 use Rattle.stages.specs.Tree.{Ran, run}
 use Rattle.stages.specs.Stages.{Result, look, walkOf}
-use Rattle.stages.proofs.Bounds.{at-most}
 use Rattle.second_stage.specs.Words.{Into, onto}
 use Rattle.second_stage.specs.Words.{result}
 use Rattle.second_stage.proofs.Runs.{written, into-run}
+use Rattle.engine.proofs.Places.{within-reach}
 use Rattle.engine.proofs.Zeros.{zeroed}
 use Rattle.engine.proofs.list.Statement.{statement}
 use Rattle.engine.proofs.list.Tie as tie
@@ -33,7 +33,7 @@ next w = ap (λ (i : Into (Result Machine)). i .next) (walked w)
 fits : (w : tie.After-walk-into) → length (ran w .reads) ≤ w .before .before .before .before .args .places
 fits w =
     let a = w .before .before .before .before .args in
-    omega (arith, at-most (a .a) (a .base) (length (now (a .bytes))) (look (a .base) (now (a .bytes))), w .before .before .before .before .pre .2)
+    omega (arith, within-reach (a .a) (a .base) (length (now (a .bytes))) (look (a .base) (now (a .bytes))), w .before .before .before .before .pre .2)
 
 size : (w : tie.After-walk-into) → length (w .walk-into .last .1 .1 .1 .1 .0) ≡ length (now (w .before .before .before .before .args .out))
 size w = ap length (ap (λ (i : Into (Result Machine)). i .words) (walked w)) ∙ simp length-sets

@@ -8,9 +8,8 @@ use borrow.Author.Needs.{needs}
 use Rattle.stages.specs.Tree.{run}
 use Rattle.stages.specs.Stages.{look, walkOf}
 use Rattle.stages.specs.Listed.{places, unused, padded}
-use Rattle.stages.proofs.Bounds.{at-most}
 use Rattle.stages.proofs.Words.{length-padded}
-use Rattle.engine.proofs.Places.{fifteen}
+use Rattle.engine.proofs.Places.{enough, few}
 use Rattle.translate.specs.Translated.{answer}
 use Rattle.translate.proofs.Accesses.{at-once, walking}
 use Rattle.listing.specs.Listing.{answerWords, translationWords}
@@ -22,7 +21,7 @@ list-requires : tie.Need-list-requires
 list-requires c κs =
     let a = c .before .before .before .before .before .before .before .args in
     let w = walking (a .h) (a .base) (now (a .bytes)) (a .kind) (a .address) (a .width) _ (sym (c .before .before .before .before .starts .ensures) ∙ c .before .before .s2 .given .1) in
-    (w .ends, w .tables, fifteen (c .before .before .s2 .given .0 .0) (w .first) (w .second), omega arith)
+    (w .ends, w .tables, enough (c .before .before .s2 .given .0 .0) (w .tables), omega arith)
 
 returns : tie.Need-returns
 unfolding translationWords
@@ -39,9 +38,9 @@ returns-2 c =
     let w = walking (a .h) (a .base) (now (a .bytes)) (a .kind) (a .address) (a .width) x (sym (c .before .before .before .before .before .before .before .before .before .before .before .before .starts .ensures) ∙ c .before .before .before .before .before .before .before .before .before .before .s2 .given .1) in
     let r = c .before .before .before .before .before .before .before .list .ensures in
     let R = run (look (a .base) (now (a .bytes))) (walkOf (a .base) (length (now (a .bytes))) x) in
-    let few : length (R .reads) ≤ places = omega (arith, at-most x (a .base) (length (now (a .bytes))) (look (a .base) (now (a .bytes))), fifteen x (w .first) (w .second)) in
+    let room = few x (a .base) (length (now (a .bytes))) (look (a .base) (now (a .bytes))) (w .tables) in
     rw (w .translates, c .before .before .put-answer2 .ensures, c .before .before .before .before .answered .ensures, r .end, r .count, r .words)
-    (ap (λ (ws : List ℕ). answerWords (answer (R .end)) ++ (length (R .reads) ∷ ws)) (behind (now (a .out)) (padded places (R .reads)) (c .before .before .before .before .before .before .before .before .before .before .before .before .before .before .before .pre) (length-padded places (R .reads) few)))
+    (ap (λ (ws : List ℕ). answerWords (answer (R .end)) ++ (length (R .reads) ∷ ws)) (behind (now (a .out)) (padded places (R .reads)) (c .before .before .before .before .before .before .before .before .before .before .before .before .before .before .before .pre) (length-padded places (R .reads) room)))
 
 pub translate-into-spec : {M : Type 1} → statement M
 translate-into-spec =

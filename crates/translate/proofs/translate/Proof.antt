@@ -9,7 +9,7 @@ walk-requires : tie.Need-walk-requires
 walk-requires c κs =
     let a = c .before .before .before .before .before .args in
     let w = walking (a .h) (a .base) (now (a .bytes)) (a .kind) (a .address) (a .width) _ (sym (c .before .before .before .starts .ensures) ∙ c .before .s2 .given .1) in
-    (w .ends, w .tables, w .first, w .second)
+    (w .ends, w .tables)
 
 returns : tie.Need-returns
 returns c =

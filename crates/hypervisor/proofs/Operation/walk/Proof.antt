@@ -20,8 +20,7 @@ walk-requires : tie.Need-walk-requires
 walk-requires c κs =
     let a = c .before .before .before .before .before .before .args in
     let same : c .before .before .guest-access .result ≡ accessFor (a .self) (a .c) (a .p) (a .address) (a .width) = rw (c .before .before .guest-access .ensures, c .before .before .before .right .ensures, c .before .before .before .before .kind .ensures) in
-    let t = tables-for (a .self) (a .c) (a .p) (a .address) (a .width) in
-    rw same (taken _ _ _ _ (c .before .before .before .before .before .before .pre) .ends, t .0, t .1, t .2)
+    rw same (taken _ _ _ _ (c .before .before .before .before .before .before .pre) .ends, tables-for (a .self) (a .c) (a .p) (a .address) (a .width))
 
 returns-2 : tie.Need-returns-2
 unfolding walkFor

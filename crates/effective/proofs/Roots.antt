@@ -1,0 +1,59 @@
+-- The tables that an access goes by: at most five levels, none exactly in Bare. Assumes nothing.
+use mathlib.Core.Path.{_≡_}
+use mathlib.Core.Bool.{Bool, true, false}
+use Prim.Native.Nat.{ℕ, _^_, _<_, _≤_}
+use native.Mathlib.Omega.{arith}
+use lib.Dec.{eqb}
+use Rattle.bits.specs.Field.{pick, get}
+use Rattle.bits.proofs.Bools.{pick-both}
+use Rattle.bits.proofs.Fields.{get-lt}
+use Rattle.registers.specs.Fields.{MODE, PPN}
+use Rattle.access.specs.declared.Root.{Root}
+use Rattle.effective.specs.declared.Paging.{Paging}
+use Rattle.effective.specs.declared.EffectiveMode.{EffectiveMode}
+use Rattle.effective.specs.Effective.{isBare, depth, root, off, firstRoot, secondRoot}
+
+-- what holds of each of the depths holds of every MODE's
+each-depth : (P : ℕ → Type 0) (mode : ℕ) → P 0 → P 3 → P 4 → P 5 → P (depth mode)
+unfolding depth
+each-depth P mode none three four five = go (eqb mode 0) (eqb mode 8) (eqb mode 9)
+  where
+    go : (a b c : Bool) → P (pick a 0 (pick b 3 (pick c 4 5)))
+    go true b c = none
+    go false true c = three
+    go false false true = four
+    go false false false = five
+
+pub bare-depth : (x : ℕ) → isBare x ≡ true → depth (get MODE x) ≡ 0
+unfolding depth
+bare-depth x e = rw e
+
+pub on-depth : (x : ℕ) → isBare x ≡ false → 0 < depth (get MODE x)
+unfolding depth
+on-depth x e = rw e (go (eqb (get MODE x) 8) (eqb (get MODE x) 9))
+  where
+    go : (b c : Bool) → 0 < pick b 3 (pick c 4 5)
+    go true c = omega arith
+    go false true = omega arith
+    go false false = omega arith
+
+-- tables of at most five levels
+pub record Five (r : Root) : Type 0 where
+  pub levels : r .levels ≤ 5
+  pub ppn : r .ppn < 2 ^ 44
+
+five-off : Five off
+five-off = record { levels = omega arith; ppn = omega arith }
+
+five-root : (x : ℕ) → Five (root x)
+five-root x = record { levels = each-depth (λ n. n ≤ 5) (get MODE x) (omega arith) (omega arith) (omega arith) (omega arith); ppn = get-lt PPN x }
+
+pub first-five : (p : Paging) (m : EffectiveMode) → Five (firstRoot p m)
+unfolding firstRoot
+first-five p m =
+    pick-both Five (m .v) (root (p .vsatp)) (pick (eqb (m .privilege) 3) off (root (p .satp))) (λ e. five-root (p .vsatp))
+    (λ e. pick-both Five (eqb (m .privilege) 3) off (root (p .satp)) (λ e. five-off) (λ e. five-root (p .satp)))
+
+pub second-five : (p : Paging) (m : EffectiveMode) → Five (secondRoot p m)
+unfolding secondRoot
+second-five p m = pick-both Five (m .v) (root (p .hgatp)) off (λ e. five-root (p .hgatp)) (λ e. five-off)
