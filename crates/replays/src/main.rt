@@ -1,4 +1,5 @@
-// Document 01's replays of the translation: an image's length; the guest whose hgatp has root PPN 80004 hex; the deepest walk.
+// Document 01's replays of the translation: an image's length; the guest whose hgatp has root PPN 80004 hex; the deepest walk of
+// three levels over three. Then four over four and five over five, 24 and 35 reads, in an image of one page (2026-05).
 // Answers and reads are written as in docs/REPLAY.md.
 use exceptions::Exception;
 use hart::state::Hart;
@@ -21,7 +22,11 @@ const STORE: u64 = 2;
 
 const DEEPEST: u64 = 3;
 
-const ENTRIES: [u64; 15] = [
+const SV48: u64 = 4;
+
+const SV57: u64 = 5;
+
+const ENTRIES: [u64; 20] = [
     // The guest with root PPN 80004: two pointers, and the three leaves.
     0x4008 << AT | 0x2000_2001,
     0x8000 << AT | 0x2000_2401,
@@ -40,6 +45,13 @@ const ENTRIES: [u64; 15] = [
     0x6000 << AT | 0x1C01,
     0x7000 << AT | 0x2001,
     DEEPEST << DO | 0x8008 << AT | 0x24C7,
+    // One page is every table of both stages, and the page itself. Second stage: a pointer to it, a leaf for guest page 1.
+    0x0000 << AT | 0x2000_0001,
+    0x0008 << AT | 0x2000_00DF,
+    // First stage: a pointer to guest page 1, a leaf for it.
+    0x0010 << AT | 0x0401,
+    SV48 << DO | 0x0018 << AT | 0x04CF,
+    SV57 << DO | 0x0018 << AT | 0x04CF,
 ];
 
 fn text(s: &[u8]) {
@@ -116,7 +128,22 @@ fn replay(image: &[u8], vsatp: u64, hgatp: u64, kind: Kind, address: u64) {
     write(translate(h, 0x8000_0000, image, kind, address, 8));
 }
 
-// What a row asks for: an access by the guest with root PPN 80004, or the deepest walk, in an image of ten pages.
+// A load through both stages, each with a MODE, over the image's first page alone.
+fn deep(image: &[u8], mode: u64, address: u64) {
+    if 0x1000 <= image.len() {
+        let root = mode % 16 << 60;
+        replay(
+            &image[0..0x1000],
+            root | 1,
+            root | 0x8_0000,
+            Kind::Load,
+            address,
+        );
+    }
+}
+
+// What a row asks for: an access by the guest with root PPN 80004, the deepest walk of three levels over three, in an image of ten
+// pages, or one of four or five. (Indexes are 2 above level 0, where it is 3.)
 fn act(image: &[u8], what: u64) {
     match what {
         LOAD => replay(image, 0, 0x8000_0000_0008_0004, Kind::Load, 0x4000_1008),
@@ -132,6 +159,8 @@ fn act(image: &[u8], what: u64) {
                 );
             }
         }
+        SV48 => deep(image, 9, 0x100_8040_3008),
+        SV57 => deep(image, 10, 0x2_0100_8040_3008),
         _ => {}
     }
 }
@@ -155,7 +184,7 @@ fn main() {
     let entries = ENTRIES;
     let mut image = [0u8; 0x1_1000];
     let mut i: usize = 0;
-    while i < 15 {
+    while i < 20 {
         enter(&mut image, entries[i]);
         i = i + 1;
     }
