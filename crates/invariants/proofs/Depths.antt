@@ -1,14 +1,19 @@
--- Worked cases of Sv48, Sv57 and their x4 (2026-05), as one computed table; the bounds of every two depths. Assumes nothing.
+-- Sv48, Sv57 and their x4 (2026-05): the MODEs that a hart can hold; the bounds of every two depths, and worked cases, each a computed table. Assumes nothing.
 use mathlib.Core.Path.{_≡_, refl}
 use mathlib.Core.Bool.{true}
 use mathlib.Core.List.{List, [], _∷_, map}
-use Prim.Native.Nat.{ℕ, _+_, _*_, _%_, _^_}
+use Prim.Native.Nat.{ℕ, _+_, _*_, _%_, _^_, _<_}
+use native.Mathlib.Omega.{arith}
 use lib.Dec.{eqb}
+use lib.ListN.{length}
 use Rattle.bits.specs.Field.{pick, get, put}
 use Rattle.bits.specs.Every.{every}
-use Rattle.registers.specs.Places.{satp, vsatp, hgatp}
-use Rattle.registers.specs.Rules.{modes, legal, stored}
-use Rattle.registers.specs.File.{Write, _↢_, registersPass}
+use Rattle.registers.specs.Fields.{MODE}
+use Rattle.registers.specs.Places.{kept, satp, vsatp, hgatp}
+use Rattle.registers.specs.Rules.{among, allowed, modes, legal, rule, stored}
+use Rattle.registers.specs.File.{_↢_, registersPass}
+use Rattle.registers.proofs.Legal.{legal-allowed}
+use Rattle.registers.proofs.Rows.{rule-sound}
 use Rattle.table.specs.Table.{firstAt}
 use Rattle.hart.specs.declared.state.Hart.{Hart}
 use Rattle.hart.specs.Hart.{reg, passes}
@@ -26,9 +31,22 @@ use Rattle.translate.specs.Translated.{accessOf}
 use Rattle.stages.specs.declared.Read.{Read}
 use Rattle.stages.specs.Tree.{Ran, bind, run}
 use Rattle.stages.specs.Stages.{Result, yields, faults, follow, inspect, down, begin, last, final, walkOf}
-use Rattle.stages.specs.Listed.{most}
+use Rattle.stages.specs.Listed.{places, most}
+use Rattle.invariants.proofs.Mode.{passing}
+use Rattle.invariants.proofs.Passing.{legal-at}
 use Rattle.invariants.proofs.Known.{Replay, _gives_, any-word}
 use Rattle.invariants.proofs.Worked.{in-mode}
+
+-- one of the MODEs that there are
+abbrev pub Held : ℕ → Type 0
+Held x = among (get MODE x) (0 ∷ 8 ∷ 9 ∷ 10 ∷ []) ≡ true
+
+-- "Document 01's stored bits and check 2 accept the new modes", and no other, in each of the three
+pub modes-held : (h : Hart) → passes h ≡ true → length (h .regs) ≡ kept → Held (reg h satp) × Held (reg h vsatp) × Held (reg h hgatp)
+modes-held h p l = (at satp (omega arith), at vsatp (omega arith), at hgatp (omega arith))
+  where
+    at : (place : ℕ) → place < kept → allowed (rule place .restriction) (reg h place) ≡ true
+    at place b = legal-allowed (rule place) (rule-sound place) (reg h place) (legal-at h place (passing h p) l b)
 
 -- ---- "(n+1)(m+1)-1 entries, so 15, 24, 35. .. Bare and mixed depths count n or m as 0 or their own depth": the first stage's MODE by rows, each of 0, 8, 9, 10
 
@@ -36,6 +54,11 @@ pub bounds : map (λ (x : ℕ). map (λ (y : ℕ). most (depth x) (depth y)) mod
     ≡ (0 ∷ 3 ∷ 4 ∷ 5 ∷ []) ∷ (3 ∷ 15 ∷ 19 ∷ 23 ∷ []) ∷ (4 ∷ 19 ∷ 24 ∷ 29 ∷ []) ∷ (5 ∷ 23 ∷ 29 ∷ 35 ∷ []) ∷ []
 unfolding depth
 bounds = refl
+
+-- the deepest walk can fill the list
+pub filled : most (depth 10) (depth 10) ≡ places
+unfolding depth
+filled = refl
 
 -- ---- the table
 
@@ -68,29 +91,27 @@ by-vsatp mode address = first-read (walked (in-mode 1 1 (vsatp ↢ rooted mode �
 abbrev by-hgatp : (mode address : ℕ) → ℕ
 by-hgatp mode address = first-read (walked (in-mode 1 1 (hgatp ↢ rooted mode ∷ [])) 0 address)
 
--- stages, levels and offsets in the root's four pages, where every entry is a pointer to that root: eight digits a read
-abbrev down-from-hgatp : (mode address : ℕ) → ℕ
-down-from-hgatp mode address = digits 0 (walked (in-mode 1 1 (hgatp ↢ rooted mode ∷ [])) 0x20000001 address .reads)
-  where
-    digits : ℕ → List Read → ℕ
-    digits n [] = n
-    digits n (x ∷ xs) = digits (n * 0x1000000 + x .stage * 0x100000 + x .level * 0x10000 + x .address .0 % 0x4000) xs
+-- a number whose digits are what is told of each read, the first's first
+abbrev digits : (base : ℕ) → (Read → ℕ) → ℕ → List Read → ℕ
+digits base told n [] = n
+digits base told n (x ∷ xs) = digits base told (n * base + told x) xs
 
--- stages and levels of the first two reads with both stages on, where every entry is a leaf for a user
+-- stage, level and offset in the root's four pages, six digits a read, where every entry is a pointer to that root
+abbrev down-from-hgatp : (mode address : ℕ) → ℕ
+down-from-hgatp mode address =
+    digits 0x1000000 (λ x. x .stage * 0x100000 + x .level * 0x10000 + x .address .0 % 0x4000) 0 (walked (in-mode 1 1 (hgatp ↢ rooted mode ∷ [])) 0x20000001 address .reads)
+
+-- stage and level of the two reads with both stages on, where every entry is a leaf for a user
 abbrev over : (first second : ℕ) → ℕ
-over first second = digits 0 (walked (in-mode 1 1 (vsatp ↢ rooted first ∷ hgatp ↢ rooted second ∷ [])) 0xDF 0 .reads)
-  where
-    digits : ℕ → List Read → ℕ
-    digits n [] = n
-    digits n (x ∷ xs) = digits (n * 0x100 + x .stage * 0x10 + x .level) xs
+over first second = digits 0x100 (λ x. x .stage * 0x10 + x .level) 0 (walked (in-mode 1 1 (vsatp ↢ rooted first ∷ hgatp ↢ rooted second ∷ [])) 0xDF 0 .reads)
 
 -- what a register that held one word holds after another was written to it, in M
 abbrev after : (number place before w : ℕ) → ℕ
 after number place before w = reg (write (in-mode 0 3 (place ↢ before ∷ [])) number w any-word .hart) place
 
 -- 1 where check 2 lets a hart with such a register pass
-abbrev passing : (place mode : ℕ) → ℕ
-passing place mode = pick (passes (in-mode 0 3 (place ↢ rooted mode ∷ []))) 1 0
+abbrev accepted : (place mode : ℕ) → ℕ
+accepted place mode = pick (passes (in-mode 0 3 (place ↢ rooted mode ∷ []))) 1 0
 
 abbrev cases : List Replay
 cases =
@@ -150,12 +171,12 @@ cases =
     after 0x680 hgatp 0 0xA000000000012344 gives 0xA000000000012344 ∷
     after 0x680 hgatp 0xA000000000000004 0xB000000000012344 gives 0xA000000000012344 ∷
     -- "check 2 accept[s] the new modes"
-    passing satp 9 gives 1 ∷
-    passing vsatp 10 gives 1 ∷
-    passing hgatp 10 gives 1 ∷
-    passing satp 11 gives 0 ∷
-    passing vsatp 7 gives 0 ∷
-    passing hgatp 11 gives 0 ∷ []
+    accepted satp 9 gives 1 ∷
+    accepted vsatp 10 gives 1 ∷
+    accepted hgatp 10 gives 1 ∷
+    accepted satp 11 gives 0 ∷
+    accepted vsatp 7 gives 0 ∷
+    accepted hgatp 11 gives 0 ∷ []
 
 pub deep : every (λ i (r : Replay). eqb (r .answer) (r .expected)) 0 cases ≡ true
 unfolding every get put legal stored firstAt registersPass passes deliveredM deliveredHS deliveredVS delivered settled written accessRow access within depth firstRoot secondRoot accessOf run bind walkOf final last begin down inspect follow index extended small judged malformed badPointer badLeaf faulty

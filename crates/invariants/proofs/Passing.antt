@@ -58,7 +58,7 @@ use Rattle.invariants.proofs.Taken.{taken-below}
 -- ---- what single registers give and take
 
 -- a place holds what is legal there
-legal-at : (h : Hart) (place : ℕ) → Passing h → length (h .regs) ≡ kept → place < kept → legal (rule place) (reg h place) ≡ true
+pub legal-at : (h : Hart) (place : ℕ) → Passing h → length (h .regs) ≡ kept → place < kept → legal (rule place) (reg h place) ≡ true
 legal-at h place p l b = every-at holds (h .regs) 0 (p .regs) place (omega arith)
 
 epc-legal : (x : ℕ) → x % 4 ≡ 0 → legal stores-epc x ≡ true
