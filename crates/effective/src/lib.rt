@@ -1,5 +1,6 @@
 // What an access takes from the hart: the mode it is made in, the stages that are on, and the bits that count.
 ghost use mathlib.Core.Path.{_≡_};
+ghost use Prim.Native.Nat.{_<_};
 ghost use Rattle.effective.specs.Effective.{effective, guestMode, depth, root, off, firstRoot, secondRoot, inMode, plainAccess, guestAccess};
 use access::Access;
 use access::Root;
@@ -57,12 +58,14 @@ fn off() -> Root
     Root { levels: 0, ppn: 0 }
 }
 
-// How many levels a MODE's tables have: Sv39's three, Sv48's four, Sv57's five.
+// How many levels a MODE's tables have, four bits for each MODE: none of 0, three of 8, four of 9, five of 10.
+const DEPTHS: u64 = 0x5555_5543_5555_5550;
+
 fn depth(mode: u64) -> u64
+    requires { ⌜ mode < 16 ⌝ }
     ensures { λ r. ⌜ r ≡ depth mode ⌝ }
 {
-    let levels = bits::select(mode == 8, 3, bits::select(mode == 9, 4, 5));
-    bits::select(mode == 0, 0, levels)
+    (DEPTHS >> (4 * mode)) % 16
 }
 
 // The tables of satp, vsatp or hgatp.

@@ -22,7 +22,8 @@ extended low address = eqb (get (span 63 low) address) (pick (has (low - 1) addr
 unfoldable pub small : ℕ → ℕ → Bool
 small low address = eqb (get (span 63 low) address) 0
 
--- The test of an address's high bits, at a number of levels: three are Sv39 and Sv39x4.
+-- The test of an address's high bits, at a number of levels: 39 and 41 bits at three (Sv39, Sv39x4), "48 or 57 bits first stage, 50 or 59 second" at four
+-- and five (2026-05).
 abbrev pub wellFormed : Stage → ℕ → ℕ → Bool
 wellFormed first levels = extended (12 + 9 * levels)
 wellFormed second levels = small (14 + 9 * levels)
