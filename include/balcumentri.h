@@ -25,20 +25,20 @@
  * A register access's result, 37 words: the same, and
  *   36        the value answered, 0 where the access trapped or was refused
  *
- * A translation's result, 67 words (the hart stays as it is):
+ * A translation's result, 147 words (the hart stays as it is):
  *   0         0 an address, 1 a fault, 2 refused
  *   1         the address, the fault's cause, the refusal's number. A fault's cause is its kind's own: 1, 12, 20 of a fetch, 4, 5, 13, 21
  *             of a load, 6, 7, 15, 23 of a store
  *   2 to 5    the fault's value, second value, instruction word and guest-address flag, else 0. The word is 3000 (hex) where the second
  *             stage failed on the way to an entry of the guest's own tables, whose guest physical address the second value has
  *   6         how many entries were read
- *   7 to 66   fifteen places of four words, in the order of the reads: stage (1 first, 2 second), level, machine address, value;
- *             unused places are 0
+ *   7 to 146  thirty-five places of four words, in the order of the reads: stage (1 first, 2 second), level (at the root 2, 3 or 4 where
+ *             MODE is 8, 9 or 10), machine address, value; unused places are 0
  *
- * A hypervisor load's or store's result, 98 words: an event's, and
+ * A hypervisor load's or store's result, 178 words: an event's, and
  *   36        the value loaded, extended to 64 bits; 0 of a store, and where the event trapped or was refused
  *   37        how many entries were read
- *   38 to 97  fifteen places of four words, as a translation's
+ *   38 to 177 thirty-five places of four words, as a translation's
  *
  * A register access, a return, WFI, a fence and a hypervisor load or store take the word of their instruction: its 32 bits, as they
  * were recorded. Where the event traps with cause 2 or 22 the trap's value is the word, zero-extended: mtval, stval or vstval holds
@@ -63,8 +63,10 @@ extern "C" {
 #define BALCUMENTRI_HART_WORDS 34
 #define BALCUMENTRI_STEP_WORDS 36
 #define BALCUMENTRI_ACCESS_WORDS 37
-#define BALCUMENTRI_TRANSLATION_WORDS 67
-#define BALCUMENTRI_GUEST_WORDS 98
+#define BALCUMENTRI_TRANSLATION_WORDS 147
+#define BALCUMENTRI_GUEST_WORDS 178
+/* How many places the list of reads has: as many as five levels over five can fill. */
+#define BALCUMENTRI_PLACES 35
 
 /* What an event or a translation came to. */
 #define BALCUMENTRI_DONE 0
@@ -88,14 +90,14 @@ uint64_t balcumentri_reset(uint64_t v, uint64_t privilege, uint64_t pc, uint64_t
 /* Check 2: out[0] is 1 where the hart can be one, else 0. out: 1 word. */
 uint64_t balcumentri_passes(const uint64_t *hart, size_t hart_words, uint64_t *out, size_t out_words);
 
-/* The translation of an access over an image: bytes from the machine address base on. out: 67 words. */
+/* The translation of an access over an image: bytes from the machine address base on. out: 147 words. */
 uint64_t balcumentri_translate(const uint64_t *hart, size_t hart_words, uint64_t base, const uint8_t *bytes, size_t length,
                                uint64_t kind, uint64_t address, uint64_t width, uint64_t *out, size_t out_words);
 
 /* The hypervisor loads and stores HLV, HLVX and HSV of 1, 2, 4 or 8 bytes (HLVX: 2 or 4) over an image, at a guest's virtual
  * address: translated as V=1 with privilege hstatus.SPVP. A fault is delivered as a trap of the hart's own mode. HLV sign-extends
  * what it loads where its flag says so, HLVX never does. HSV stores the low bytes of the value into the image, little-endian, where
- * it is done; else the image stays as it is. out: 98 words. */
+ * it is done; else the image stays as it is. out: 178 words. */
 uint64_t balcumentri_hlv(const uint64_t *hart, size_t hart_words, uint64_t base, const uint8_t *bytes, size_t length,
                          uint64_t width, bool is_signed, uint64_t address, uint32_t word, uint64_t *out, size_t out_words);
 uint64_t balcumentri_hlvx(const uint64_t *hart, size_t hart_words, uint64_t base, const uint8_t *bytes, size_t length,

@@ -16,7 +16,7 @@ pub const HART: usize = 3 + KEPT;
 pub const STEP: usize = HART + 2;
 pub const ACCESS: usize = STEP + 1;
 /// How many places the list of reads has.
-pub const PLACES: usize = 15;
+pub const PLACES: usize = 35;
 
 /// A hart's words.
 pub type HartWords = [u64; HART];
@@ -25,11 +25,19 @@ pub type StepWords = [u64; STEP];
 /// A register access's result.
 pub type AccessWords = [u64; ACCESS];
 /// A list of reads: how many there are, and its places.
-#[derive(Clone, Copy, Debug, Default)]
+#[derive(Clone, Copy, Debug)]
 #[repr(C)]
 pub struct List {
     pub count: u64,
     pub places: [Read; PLACES],
+}
+impl Default for List {
+    fn default() -> Self {
+        List {
+            count: 0,
+            places: [Read::default(); PLACES],
+        }
+    }
 }
 /// A translation's result, by name.
 #[derive(Clone, Copy, Debug, Default)]

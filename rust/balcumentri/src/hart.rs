@@ -501,6 +501,49 @@ mod tests {
         }
     }
 
+    /// Sv57 over Sv57x4 in one page: entry 0 is the second stage's pointer to the page, entry 2 its leaf for the guest page 2000 (hex);
+    /// entry 3 is the first stage's pointer to that guest page, and entry 4 its leaf.
+    #[test]
+    fn the_deepest_walk_fills_the_list() {
+        let mut bytes = vec![0; 0x1000];
+        let page = BASE >> 2;
+        for (index, entry) in [(0, page | 1), (2, page | 0xdf), (3, 0x801), (4, 0x8cf)] {
+            bytes[8 * index..8 * index + 8].copy_from_slice(&entry.to_le_bytes());
+        }
+        let mut image = ImageMut {
+            base: BASE,
+            bytes: &mut bytes,
+        };
+        let mut hart = Hart::new(0, 1, 0);
+        let mut guest = Hart::new(1, 1, 0);
+        for hart in [&mut hart, &mut guest] {
+            assert!(hart.put_register(0x280, 10 << 60 | 2));
+            assert!(hart.put_register(0x680, 10 << 60 | BASE >> 12));
+            assert!(hart.put_register(0x600, 0x2_0000_0100)); // SPVP
+            assert!(hart.passes());
+        }
+        let address = 0x3_0180_c060_4028;
+        let load = Access {
+            kind: Kind::Load,
+            address,
+            width: 8,
+        };
+        let translation = guest.translate(image.as_image(), load);
+        assert_eq!(translation.answer(), Answer::Address(BASE + 0x28));
+        let places = (0..5).rev().map(|level| (1, level)).chain([(0, 0)]);
+        let expected = places.flat_map(|own| (0..5).rev().map(|level| (2, level)).chain([own]));
+        let read = translation.reads().iter();
+        assert!(read
+            .map(|read| (read.stage, read.level))
+            .eq(expected.take(35)));
+        assert_eq!(translation.reads().len(), 35);
+        let stored = hart.hsv(&mut image, 8, address, 7, 0);
+        assert_eq!((stored.outcome, stored.reads().len()), (Outcome::Done, 35));
+        let loaded = hart.hlv(image.as_image(), 8, false, address, 0);
+        assert_eq!((loaded.outcome, loaded.value), (Outcome::Done, 7));
+        assert_eq!(loaded.reads(), translation.reads());
+    }
+
     /// The guest's root is on a page that the second stage does not let the hart read: the fault is the access's own.
     #[test]
     fn the_fault_of_a_guest_entry_is_that_of_the_access() {

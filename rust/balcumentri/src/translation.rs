@@ -94,7 +94,7 @@ pub enum Answer {
 pub struct Read {
     /// 1 for the first stage, 2 for the second.
     pub stage: u64,
-    /// The level, 2 at the top.
+    /// The level: at the root 2, 3 or 4, by the stage's MODE; 0 at the last table.
     pub level: u64,
     /// The entry's machine address.
     pub address: u64,

@@ -6,7 +6,7 @@ use balcumentri::{Access, Hart, Image, Kind};
 /// How many words a hart takes.
 pub const HART_WORDS: usize = 34;
 /// How many words a translation takes.
-pub const TRANSLATION_WORDS: usize = 67;
+pub const TRANSLATION_WORDS: usize = 147;
 
 /// A hart's words.
 pub type HartWords = [u64; HART_WORDS];

@@ -1,4 +1,5 @@
-//! Harts, images and accesses: walks of 0, 3 and 15 reads, walks that end with a fault, and a hart that is refused.
+//! Harts, images and accesses: walks of 0, 3 and 15 reads, walks that end with a fault, and a hart that is refused; then walks through
+//! tables of four and five levels, of 23, 24 and 35 reads.
 
 use balcumentri::{Access, Answer, Hart, Image, Kind};
 use compare::rng::Rng;
@@ -95,12 +96,12 @@ const U: Mode = (0, 0);
 const VS: Mode = (1, 1);
 const VU: Mode = (1, 0);
 
-/// Whether the first stage is on, and whether the second one is.
-type Stages = (bool, bool);
-const OFF: Stages = (false, false);
-const FIRST: Stages = (true, false);
-const SECOND: Stages = (false, true);
-const BOTH: Stages = (true, true);
+/// How many levels the first stage's tables have, and how many the second one's: none where it is off.
+type Stages = (u64, u64);
+const OFF: Stages = (0, 0);
+const FIRST: Stages = (3, 0);
+const SECOND: Stages = (0, 3);
+const BOTH: Stages = (3, 3);
 
 /// What is wrong in a case. A user on pages of a supervisor faults without it.
 #[derive(Clone, Copy, PartialEq, Eq)]
@@ -118,8 +119,8 @@ enum Flaw {
     Register,
 }
 
-/// The cases: no stage on, one alone, both; then faults, and a hart that is refused.
-const PLANS: [Plan; 13] = {
+/// The cases: no stage on, one alone, both; then faults, and a hart that is refused; then deeper tables.
+const PLANS: [Plan; 16] = {
     use Flaw::{HighBits, Misaligned, Nothing, Pages, Register, Tables};
     use Outcome::{Address, Refused};
     [
@@ -136,6 +137,9 @@ const PLANS: [Plan; 13] = {
         plan("HS, high bits differ", HS, FIRST, HighBits, 0, PAGE),
         plan("HS, misaligned load", HS, FIRST, Misaligned, 0, MISALIGNED),
         plan("M, register out of range", M, OFF, Register, 0, Refused(2)),
+        plan("VS, Sv39 over Sv57x4", VS, (3, 5), Nothing, 23, Address),
+        plan("VS, Sv48 over Sv48x4", VS, (4, 4), Nothing, 24, Address),
+        plan("VS, Sv57 over Sv57x4", VS, (5, 5), Nothing, 35, Address),
     ]
 };
 
@@ -169,7 +173,6 @@ const SATP: u64 = 0x180;
 const VSATP: u64 = 0x280;
 const MEPC: u64 = 0x341;
 const HGATP: u64 = 0x680;
-const SV39: u64 = 8 << 60;
 
 /// A pointer: V.
 const POINTER: u64 = 0x01;
@@ -194,27 +197,26 @@ fn made(plan: &Plan) -> Case {
     let leaf = |flaw| if plan.flaw == flaw { SUPERVISOR } else { USER };
     let mut memory = Memory::new(second, leaf(Flaw::Tables));
     let root = memory.guest_page(USER);
-    // The pages at addresses of four top-level entries, eight second-level tables each.
+    // The pages at addresses of four top-level entries, eight tables of level 0 each.
     let mut rng = Rng::new(1);
     let pages: Vec<u64> = (0..PAGES)
         .map(|page| {
             let physical = memory.guest_page(leaf(Flaw::Pages));
-            if !first {
+            if first == 0 {
                 return physical;
             }
-            let address =
-                (page % 4) << 30 | (page / 4 % 8) << 21 | rng.below(4) << 19 | (page / 32) << 12;
-            memory.map_first(root, address, physical);
+            let address = spread(page, first) | rng.below(4) << 19;
+            memory.map_first(root, first, address, physical);
             address
         })
         .collect();
     let mut hart = Hart::new(v, privilege, 0x1000);
     let mut hold = |number, value| assert!(hart.put_register(number, value));
-    if first {
-        hold(if v == 1 { VSATP } else { SATP }, SV39 | root >> 12);
+    if first > 0 {
+        hold(if v == 1 { VSATP } else { SATP }, tables(first, root));
     }
-    if let Some(table) = memory.second {
-        hold(HGATP, SV39 | table >> 12);
+    if second > 0 {
+        hold(HGATP, tables(second, memory.second_root));
     }
     if plan.flaw == Flaw::Register {
         hold(MEPC, 0b10);
@@ -228,6 +230,11 @@ fn made(plan: &Plan) -> Case {
         accesses: accesses.collect(),
         bytes: memory.bytes,
     }
+}
+
+/// What satp, vsatp or hgatp holds for tables of so many levels, from a root on.
+fn tables(levels: u64, root: u64) -> u64 {
+    (levels + 5) << 60 | root >> 12
 }
 
 /// A fetch, a load or a store in turn, somewhere in one of the pages.
@@ -264,36 +271,45 @@ fn flawed(access: Access, flaw: Flaw) -> Access {
 struct Memory {
     bytes: Vec<u8>,
     used: u64,
-    /// The root of the second stage, where it is on.
-    second: Option<u64>,
+    /// The levels of the second stage's tables, none where it is off, and their root.
+    second: u64,
+    second_root: u64,
     /// The second stage's leaf bits of the first stage's tables.
     tables: u64,
     /// With the second stage on: the machine page of each guest page, in the order in which they were handed out.
     guests: Vec<u64>,
 }
 
-/// The guest physical address of the guest page with a number: spread over four top-level entries.
-fn guest_address(number: u64) -> u64 {
-    (number % 4) << 30 | (number / 4 % 8) << 21 | (number / 32) << 12
+/// An address's lowest bit that is of its index into a table of a level.
+fn shift(level: u64) -> u64 {
+    12 + 9 * level
 }
 
-/// The number of the guest page at an address.
-fn guest_number(address: u64) -> u64 {
-    (address >> 30) | (address >> 21 & 7) << 2 | (address >> 12 & 511) << 5
+/// The address of the page with a number, for tables of so many levels: one of four indexes, the same at each level from 2 up, and one
+/// of eight at level 1.
+fn spread(number: u64, levels: u64) -> u64 {
+    let upper = (2..levels).map(|level| (number % 4) << shift(level));
+    upper.sum::<u64>() | (number / 4 % 8) << shift(1) | (number / 32) << shift(0)
+}
+
+/// The number of the page at an address that is spread so.
+fn number(address: u64) -> u64 {
+    (address >> shift(2) & 3) | (address >> shift(1) & 7) << 2 | (address >> shift(0) & 511) << 5
 }
 
 impl Memory {
-    fn new(second: bool, tables: u64) -> Memory {
+    fn new(second: u64, tables: u64) -> Memory {
         let mut memory = Memory {
             bytes: vec![0; IMAGE as usize],
             used: 0,
-            second: None,
+            second,
+            second_root: 0,
             tables,
             guests: Vec::new(),
         };
         // first, so that the 16 KiB stand at a multiple of 16 KiB
-        if second {
-            memory.second = Some(memory.pages(4));
+        if second > 0 {
+            memory.second_root = memory.pages(4);
         }
         memory
     }
@@ -308,26 +324,27 @@ impl Memory {
     /// A new page at a guest physical address, by a leaf with these bits. Where the second stage is off, that is a machine address.
     fn guest_page(&mut self, leaf: u64) -> u64 {
         let machine = self.pages(1);
-        let Some(root) = self.second else {
+        if self.second == 0 {
             return machine;
-        };
-        let guest = guest_address(self.guests.len() as u64);
+        }
+        let guest = spread(self.guests.len() as u64, self.second);
         self.guests.push(machine);
-        let top = root + 8 * (guest >> 30);
-        let middle = self.table(top, Memory::new_table) + 8 * (guest >> 21 & 511);
-        let bottom = self.table(middle, Memory::new_table) + 8 * (guest >> 12 & 511);
-        self.put(bottom, machine >> 2 | leaf);
+        let mut entry = self.second_root + 8 * (guest >> shift(self.second - 1));
+        for level in (0..self.second - 1).rev() {
+            entry = self.table(entry, Memory::new_table) + 8 * (guest >> shift(level) & 511);
+        }
+        self.put(entry, machine >> 2 | leaf);
         guest
     }
 
-    /// Maps a 4 KiB page in the first stage.
-    fn map_first(&mut self, root: u64, address: u64, physical: u64) {
-        let top = self.machine(root + 8 * (address >> 30 & 511));
-        let middle = self.table(top, Memory::guest_table) + 8 * (address >> 21 & 511);
-        let middle = self.machine(middle);
-        let bottom = self.table(middle, Memory::guest_table) + 8 * (address >> 12 & 511);
-        let bottom = self.machine(bottom);
-        self.put(bottom, physical >> 2 | SUPERVISOR);
+    /// Maps a 4 KiB page in the first stage, whose tables have so many levels.
+    fn map_first(&mut self, root: u64, levels: u64, address: u64, physical: u64) {
+        let mut entry = self.machine(root + 8 * (address >> shift(levels - 1) & 511));
+        for level in (0..levels - 1).rev() {
+            let table = self.table(entry, Memory::guest_table);
+            entry = self.machine(table + 8 * (address >> shift(level) & 511));
+        }
+        self.put(entry, physical >> 2 | SUPERVISOR);
     }
 
     /// A new table of the first stage.
@@ -352,8 +369,8 @@ impl Memory {
     /// The machine address of a guest physical one.
     fn machine(&self, address: u64) -> u64 {
         match self.second {
-            None => address,
-            Some(_) => self.guests[guest_number(address) as usize] + address % 4096,
+            0 => address,
+            _ => self.guests[number(address) as usize] + address % 4096,
         }
     }
 

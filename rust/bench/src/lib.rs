@@ -4,7 +4,7 @@
 //! |---|---|
 //! | [`plain`] | the translation as plain Rust, written for speed |
 //! | [`call`] | the C call on prepared words, without the wrapper |
-//! | [`cases`] | harts, images and accesses: walks of 0, 3 and 15 reads, faults, a refusal |
+//! | [`cases`] | harts, images and accesses: walks of 0, 3 and 15 reads, faults, a refusal; deeper walks, of up to 35 reads |
 //! | [`sides`] | what is timed, and that all sides answer alike |
 //! | [`instructions`] | how many instructions a translation takes, by callgrind |
 

@@ -1,11 +1,12 @@
 //! The translation as plain Rust, written for speed: the other side of the comparison.
 //!
 //! It does all that the proved call does: check 2 over the whole hart, check 1, check 3, misalignment, the effective mode, both
-//! stages, and the list of fifteen places. Nothing is kept between calls. What makes it fast:
+//! stages of any depth, and the list of thirty-five places. Nothing is kept between calls. What makes it fast:
 //!
 //! - The caller lends the result. The walk writes its entries there, and only the places after them are zeroed, once it is done.
 //! - One compare says whether an entry lies in the image; it is then loaded, and its place written, unchecked.
 //! - The rules of a hart and of an entry are masks over whole words, not tests of one bit after another.
+//! - The walk is compiled once for each pair of depths, so that the levels of its loops are constants.
 //! - All inner functions become one with [`translate`].
 #![allow(unsafe_code)]
 
@@ -23,9 +24,9 @@ pub struct Translation {
     pub count: usize,
 }
 
-/// The most entries that a walk reads: at each of three levels of the first stage one, after three of the second stage for its
-/// address; and three of the second stage for the access itself.
-const PLACES: usize = 3 * (3 + 1) + 3;
+/// The most entries that a walk reads: at each of five levels of the first stage one, after five of the second stage for its
+/// address; and five of the second stage for the access itself.
+pub const PLACES: usize = 5 * (5 + 1) + 5;
 
 impl Default for Translation {
     fn default() -> Self {
@@ -100,12 +101,16 @@ const VS_INTERRUPTS: u64 = 0x444;
 const INTERRUPTS: u64 = S_INTERRUPTS | VS_INTERRUPTS | 0x888;
 const TVEC_ZERO: u64 = 0b10;
 const EPC_ZERO: u64 = 0b11;
-/// MODE is 0 or 8: its three low bits are zero.
-const MODE_ZERO: u64 = 7 << 60;
-const HGATP_ZERO: u64 = MODE_ZERO | 3 << 58 | 0b11;
+const HGATP_ZERO: u64 = 3 << 58 | 0b11;
 
 // Fields of satp, vsatp and hgatp.
-const MODE_SV39: u64 = 1 << 63;
+const MODE_LOW: u32 = 60;
+const BARE: u64 = 0;
+const SV39: u64 = 8;
+const SV48: u64 = 9;
+const SV57: u64 = 10;
+/// A bit for each MODE that they may hold.
+const MODES: u64 = 1 << BARE | 1 << SV39 | 1 << SV48 | 1 << SV57;
 const PPN: u64 = (1 << 44) - 1;
 
 // Bits of an entry.
@@ -170,10 +175,13 @@ pub fn translate(hart: &HartWords, image: Image<'_>, access: Access, out: &mut T
     };
     let first = Need::first(kind, privilege, status, mstatus);
     let second = Need::second(kind, mstatus);
-    let end = walk
-        .first(atp, address, first)
-        .and_then(|guest| walk.second(guest, second, End::Guest))
-        .and_then(|machine| walk.whole(machine, width));
+    let end = match walk.hgatp >> MODE_LOW {
+        BARE => walk.both::<0>(atp, address, first, second),
+        SV39 => walk.both::<3>(atp, address, first, second),
+        SV48 => walk.both::<4>(atp, address, first, second),
+        _ => walk.both::<5>(atp, address, first, second),
+    };
+    let end = end.and_then(|machine| walk.whole(machine, width));
     let answer = match end {
         Ok(machine) => Answer::Address(machine),
         Err(End::Outside) => fault(by(kind, 1, 5, 7), 0, 0),
@@ -208,11 +216,9 @@ fn passes(hart: &HartWords) -> bool {
     let wrong = hart[PC] & EPC_ZERO
         | hart[STVEC] & TVEC_ZERO
         | hart[SEPC] & EPC_ZERO
-        | hart[SATP] & MODE_ZERO
         | (hart[VSSTATUS] & !VSSTATUS_STORED ^ VSSTATUS_FIXED)
         | hart[VSTVEC] & TVEC_ZERO
         | hart[VSEPC] & EPC_ZERO
-        | hart[VSATP] & MODE_ZERO
         | (mstatus & !MSTATUS_STORED ^ MSTATUS_FIXED)
         | mpp_is_2
         | hart[MEDELEG] & !MEDELEG_STORED
@@ -224,8 +230,17 @@ fn passes(hart: &HartWords) -> bool {
         | (hart[HSTATUS] & !HSTATUS_STORED ^ HSTATUS_FIXED)
         | hart[HEDELEG] & !HEDELEG_STORED
         | hart[HIDELEG] & !VS_INTERRUPTS
-        | hart[HGATP] & HGATP_ZERO;
+        | hart[HGATP] & HGATP_ZERO
+        | wrong_mode(hart[SATP])
+        | wrong_mode(hart[VSATP])
+        | wrong_mode(hart[HGATP]);
     !no_mode & !mprv & (wrong == 0)
+}
+
+/// 1 where satp, vsatp or hgatp has a MODE that it can't hold, else 0.
+#[inline(always)]
+fn wrong_mode(atp: u64) -> u64 {
+    !MODES >> (atp >> MODE_LOW) & 1
 }
 
 /// Check 1.
@@ -401,22 +416,43 @@ impl Walk<'_> {
         }
     }
 
-    /// The first stage, its entries' addresses through the second one.
+    /// Both stages, the second one's tables of so many levels, none where it is off.
     #[inline(always)]
-    fn first(&mut self, atp: u64, address: u64, need: Need) -> Result<u64, End> {
-        if atp & MODE_SV39 == 0 {
-            return Ok(address);
-        }
-        let high = (address as i64) >> 38;
+    fn both<const SECOND: u32>(
+        &mut self,
+        atp: u64,
+        address: u64,
+        first: Need,
+        second: Need,
+    ) -> Result<u64, End> {
+        let guest = match atp >> MODE_LOW {
+            BARE => address,
+            SV39 => self.first::<3, SECOND>(atp, address, first)?,
+            SV48 => self.first::<4, SECOND>(atp, address, first)?,
+            _ => self.first::<5, SECOND>(atp, address, first)?,
+        };
+        self.second::<SECOND>(guest, second, End::Guest)
+    }
+
+    /// The first stage, its tables of so many levels, its entries' addresses through the second one.
+    #[inline(always)]
+    fn first<const LEVELS: u32, const SECOND: u32>(
+        &mut self,
+        atp: u64,
+        address: u64,
+        need: Need,
+    ) -> Result<u64, End> {
+        let mut level = LEVELS - 1;
+        let mut shift = 12 + 9 * level;
+        // the top table's index has nine bits, and those above are as the highest of them
+        let high = (address as i64) >> (shift + 8);
         if high != 0 && high != -1 {
             return Err(End::Page);
         }
-        let mut level = 2;
-        let mut shift = 12 + 9 * level;
         let mut table = (atp & PPN) << 12;
         loop {
             let slot = table + 8 * (address >> shift & 511);
-            let at = self.second(slot, ENTRY, End::Entry)?;
+            let at = self.second::<SECOND>(slot, ENTRY, End::Entry)?;
             let entry = self.read(1, level, at)?;
             if !is_pointer(entry) {
                 return need.leaf(entry, address, shift).ok_or(End::Page);
@@ -430,13 +466,18 @@ impl Walk<'_> {
         }
     }
 
-    /// The second stage.
+    /// The second stage, its tables of so many levels, none where it is off.
     #[inline(always)]
-    fn second(&mut self, address: u64, need: Need, fault: fn(u64) -> End) -> Result<u64, End> {
-        if self.hgatp & MODE_SV39 == 0 {
+    fn second<const LEVELS: u32>(
+        &mut self,
+        address: u64,
+        need: Need,
+        fault: fn(u64) -> End,
+    ) -> Result<u64, End> {
+        if LEVELS == 0 {
             return Ok(address);
         }
-        let mut level = 2;
+        let mut level = LEVELS - 1;
         let mut shift = 12 + 9 * level;
         // the top table has four times 512 entries
         let top = address >> shift;

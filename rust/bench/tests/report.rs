@@ -46,7 +46,7 @@ fn other_arguments_give_the_usage() {
         vec!["many"],
         vec!["1", "2"],
         vec!["--once"],
-        vec!["--once", "13", "plain_translate"],
+        vec!["--once", "16", "plain_translate"],
         vec!["--once", "0", "other"],
     ] {
         let run = bench(&arguments);
@@ -61,10 +61,14 @@ fn callgrind_counts_where_there_is_one() {
     if Command::new("valgrind").arg("--version").output().is_err() {
         return;
     }
-    // without a read, and with fifteen
+    // without a read, with fifteen, and with thirty-five
     for (_, symbol) in COUNTED {
-        let [none, fifteen] = [0, 5].map(|case| count(Path::new(BENCH), case, symbol).unwrap());
-        assert!(none > 0 && fifteen > none, "{symbol}: {none} {fifteen}");
+        let [none, fifteen, most] =
+            [0, 5, 15].map(|case| count(Path::new(BENCH), case, symbol).unwrap());
+        assert!(
+            none > 0 && fifteen > none && most > fifteen,
+            "{symbol}: {none} {fifteen} {most}"
+        );
     }
     assert!(count(Path::new(BENCH), 0, "other").is_err());
 }

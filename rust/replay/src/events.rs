@@ -70,9 +70,9 @@ fn write_lines(happened: &Happened<'_>, number: u64, action: Action, old: u64) -
     let asked = action.asked(old);
     let new = held(after, number);
     let register = registers::title(number);
-    if let Some(mode) = writes::ignored(number, asked) {
+    if let Some(why) = writes::ignored(number, asked) {
         return vec![format!(
-            "the write is ignored: MODE {mode:x} is neither 0 nor 8; {register} stays {old:x}"
+            "the write is ignored: {why}; {register} stays {old:x}"
         )];
     }
     let change = match registers::changes(number, old, new) {

@@ -127,13 +127,15 @@ pub const HSTATUS: &[Field] = &[
     bit("VTSR", 22),
     field("VSXL", 33, 32, &[2]),
 ];
+/// What MODE may hold of satp, vsatp and hgatp.
+const MODES: &[u64] = &[0, 8, 9, 10];
 pub const SATP: &[Field] = &[
-    field("MODE", 63, 60, &[0, 8]),
+    field("MODE", 63, 60, MODES),
     field("ASID", 59, 44, &[]),
     field("PPN", 43, 0, &[]),
 ];
 pub const HGATP: &[Field] = &[
-    field("MODE", 63, 60, &[0, 8]),
+    field("MODE", 63, 60, MODES),
     field("VMID", 57, 44, &[]),
     field("PPN", 43, 0, &[]),
 ];

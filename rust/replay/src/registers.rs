@@ -255,6 +255,22 @@ fn parts(number: u64, fields: &[Field], word: u64) -> Vec<String> {
     parts
 }
 
+/// How many levels the tables of satp, vsatp or hgatp have with a MODE; there are none with Bare, nor with what MODE can't hold.
+pub fn levels(mode: u64) -> Option<u64> {
+    (8..=10).contains(&mode).then(|| mode - 5)
+}
+
+/// How many low bits of an address stand below its index into a table of a level: the offset in a page, and nine for each level below.
+pub fn offset_bits(level: u64) -> u64 {
+    12 + 9 * level
+}
+
+/// The name of the MODE with which a register's tables have so many levels.
+fn mode_name(number: u64, levels: u64) -> String {
+    let suffix = if number == HGATP { "x4" } else { "" };
+    format!("Sv{}{suffix}", offset_bits(levels))
+}
+
 /// A field's value, with what it stands for.
 pub fn meaning(number: u64, field: &Field, value: u64) -> String {
     let name = match (field.name, value) {
@@ -263,8 +279,10 @@ pub fn meaning(number: u64, field: &Field, value: u64) -> String {
             "vectored; an interrupt goes to BASE plus 4 times its cause, an exception to BASE"
         }
         ("MODE", 0) => "Bare",
-        ("MODE", 8) if number == HGATP => "Sv39x4",
-        ("MODE", 8) => "Sv39",
+        ("MODE", _) => match levels(value) {
+            Some(levels) => &mode_name(number, levels),
+            None => return format!("{value:x}"),
+        },
         ("MPP", 0) => "U",
         ("MPP", 1) => "S",
         ("MPP", 3) => "M",

@@ -2,14 +2,13 @@
 //! It explains answers and decides none.
 
 use crate::names::Mode;
-use crate::registers::{bits, get, HGATP, HSTATUS, MSTATUS, SATP, VSATP, VSSTATUS};
+use crate::registers::{
+    bits, get, levels, offset_bits, HGATP, HSTATUS, MSTATUS, SATP, VSATP, VSSTATUS,
+};
 use crate::script::{GuestAccess, Transfer};
 use balcumentri::{Access, Hart, Kind, Read};
 use std::fmt;
 use std::slice::Iter;
-
-/// The level of the root tables.
-const TOP: u64 = 2;
 
 /// The right that an access needs of a page. MXR lets X do for R.
 #[derive(Clone, Copy, PartialEq, Eq)]
@@ -36,11 +35,43 @@ pub struct View {
     pub second: Option<Table>,
 }
 
-/// A register that names a root table.
+/// A register that names a root table, and how many levels there are.
 #[derive(Clone, Copy)]
 pub struct Table {
     pub part: Part,
     root: u64,
+    levels: u64,
+}
+
+impl Table {
+    /// The level of the root.
+    fn top(self) -> u64 {
+        self.levels - 1
+    }
+
+    /// How many low bits of an address the tables translate, with the offset in a page: the second stage's root has four times as
+    /// many entries as another table.
+    fn bits(self) -> u64 {
+        offset_bits(self.levels) + if self.part.is_first() { 0 } else { 2 }
+    }
+
+    /// An address's index into the table of a level.
+    fn index(self, address: u64, level: u64) -> u64 {
+        let wide = !self.part.is_first() && level == self.top();
+        address >> offset_bits(level) & if wide { 0x7ff } else { 0x1ff }
+    }
+
+    /// The rule about an address's high bits, where it is broken.
+    fn high_bits(self, address: u64) -> Option<String> {
+        let (bits, sign) = (self.bits(), self.bits() - 1);
+        if self.part.is_first() {
+            let high = address as i64 >> sign;
+            (high != 0 && high != -1)
+                .then(|| format!("bits 63:{bits} of {address:x} are not all equal to bit {sign}"))
+        } else {
+            (address >> bits != 0).then(|| format!("bits 63:{bits} of {address:x} are not all 0"))
+        }
+    }
 }
 
 impl View {
@@ -85,7 +116,7 @@ impl View {
     ) -> Self {
         let table = |number, part| {
             let root = field(hart, number, "PPN") << 12;
-            (field(hart, number, "MODE") != 0).then_some(Table { part, root })
+            levels(field(hart, number, "MODE")).map(|levels| Table { part, root, levels })
         };
         let guest = mode.is_guest();
         let own = if guest { VSSTATUS } else { MSTATUS };
@@ -226,15 +257,15 @@ impl Follower<'_> {
             address,
             steps: Vec::new(),
         });
-        if let Some(rule) = high_bits(part, address) {
+        if let Some(rule) = from.high_bits(address) {
             return Err(stop(part, address, None, rule));
         }
-        let (mut table, mut level) = (from.root, TOP);
+        let (mut table, mut level) = (from.root, from.top());
         loop {
             let mut step = Step {
                 level,
                 table,
-                index: index(part, address, level),
+                index: from.index(address, level),
                 through: None,
                 machine: None,
                 read: None,
@@ -391,28 +422,6 @@ fn outside(address: u64) -> String {
     format!("{address:x} is outside the image: page {page:x} is missing")
 }
 
-/// The rule about an address's high bits, where it is broken.
-fn high_bits(part: Part, address: u64) -> Option<String> {
-    let high = address >> 38;
-    if part.is_first() {
-        (high != 0 && high != u64::MAX >> 38)
-            .then(|| format!("bits 63:39 of {address:x} are not all equal to bit 38"))
-    } else {
-        (address >> 41 != 0).then(|| format!("bits 63:41 of {address:x} are not all 0"))
-    }
-}
-
-/// How many low bits of an address a page of a level leaves as they are.
-fn offset_bits(level: u64) -> u64 {
-    12 + 9 * level
-}
-
-/// An address's index into the table of a level.
-fn index(part: Part, address: u64, level: u64) -> u64 {
-    let wide = !part.is_first() && level == TOP;
-    address >> offset_bits(level) & if wide { 0x7ff } else { 0x1ff }
-}
-
 const V: u32 = 0;
 const R: u32 = 1;
 const W: u32 = 2;
@@ -459,7 +468,9 @@ pub fn leads(part: Part, level: u64, entry: u64) -> String {
         let size = match level {
             0 => "4 KiB",
             1 => "2 MiB",
-            _ => "1 GiB",
+            2 => "1 GiB",
+            3 => "512 GiB",
+            _ => "256 TiB",
         };
         if target & ((1 << offset_bits(level)) - 1) != 0 {
             return format!("a leaf, but no {size} page begins at {guest}{target:x}");

@@ -1,13 +1,15 @@
 //! What a write asked for and did not get.
 
 use crate::fields::{Field, Writer};
-use crate::registers::{bits, fields, get, meaning, visible, SATP, VSATP};
+use crate::registers::{bits, fields, meaning, visible, SATP, VSATP};
 use crate::views;
 
-/// The MODE for which a write to satp or vsatp does nothing.
-pub fn ignored(number: u64, asked: u64) -> Option<u64> {
-    let mode = get(number, "MODE", asked);
-    (matches!(number, SATP | VSATP) && !matches!(mode, 0 | 8)).then_some(mode)
+/// Why a write to satp or vsatp does nothing.
+pub fn ignored(number: u64, asked: u64) -> Option<String> {
+    let mode = fields(number).iter().find(|field| field.name == "MODE")?;
+    let value = mode.of(asked);
+    (matches!(number, SATP | VSATP) && !mode.takes(value))
+        .then(|| format!("MODE is {value:x}, it may hold {}", mode.choices()))
 }
 
 /// What of a write was not stored: a sentence for each wider field that kept what it held, one for each reason why bits did, and one

@@ -98,7 +98,7 @@ fn writes_that_are_ignored_or_not_stored() {
         lines("reg 180 8000000000000001\nwrite 180 5000000000000000 0\n"),
         [
             "write to satp (180) in M at 0: done, on in M at 4",
-            "the write is ignored: MODE 5 is neither 0 nor 8; satp (180) stays 8000000000000001",
+            "the write is ignored: MODE is 5, it may hold 0, 8, 9 or a; satp (180) stays 8000000000000001",
         ]
     );
     assert_eq!(
@@ -106,7 +106,7 @@ fn writes_that_are_ignored_or_not_stored() {
         [
             "write to hgatp (680) in M at 0: done, on in M at 4",
             "hgatp (680) 8000000000000004 becomes 8000000000000008: PPN 4 (address 4000) to 8 (address 8000)",
-            "MODE 5 is not stored, it may hold 0 or 8: it keeps 8 (Sv39x4)",
+            "MODE 5 is not stored, it may hold 0, 8, 9 or a: it keeps 8 (Sv39x4)",
             "bit 0 is not stored: it is always 0",
         ]
     );

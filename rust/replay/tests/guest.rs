@@ -1,4 +1,4 @@
-//! What explanations say of hypervisor loads and stores, over random tables and harts. HLV and HSV go the way of the guest's own load
+//! What explanations say of hypervisor loads and stores, over random tables of each depth and harts. HLV and HSV go the way of the guest's own load
 //! or store, entry by entry, and end as that does, for the same reason. What is said to be read, loaded, stored and overwritten is
 //! what the image holds.
 
@@ -56,12 +56,15 @@ fn access(rng: &mut Rng) -> (String, String) {
     }
 }
 
-/// The entries of both stages, by address: at the second stage pointers, or leaves of each size; at the first a leaf of 1 GiB for
-/// guest physical addresses, and one for machine addresses. Some of them have a flaw.
+/// The entries of both stages, by address: at the second stage pointers, or leaves of each size up to 1 GiB; at the first a leaf of
+/// 1 GiB for guest physical addresses, and one for machine addresses. The first entry of either root points to the root again, for the
+/// levels of deeper tables. Some of them have a flaw.
 fn entries(rng: &mut Rng, privilege: u64) -> Vec<(u64, u64)> {
     let (root, table) = (BASE + 0x28, BASE + 0x4000);
     let own = if privilege == 0 { 0xdf } else { 0xcf };
     let mut entries = vec![
+        (BASE, 0x2000_0001),
+        (BASE + 0x6000, 0x5000_1801),
         (root, rng.pick(&[0x2000_1001, 0x2000_1001, 0x2000_00df])),
         (table, rng.pick(&[0x2000_1401, 0x2000_1401, 0x2000_00df])),
         (BASE + 0x6008, 0x5000_0000 | own),
@@ -79,6 +82,14 @@ fn entries(rng: &mut Rng, privilege: u64) -> Vec<(u64, u64)> {
     entries
 }
 
+/// What vsatp or hgatp holds: a root with tables of some depth, or Bare.
+fn tables(rng: &mut Rng, root: u64) -> u64 {
+    if rng.chance(20) {
+        return 0;
+    }
+    rng.pick(&[8, 8, 9, 10]) << 60 | root
+}
+
 /// What an access asks of the hart: stages, SUM and MXR of the guest and of the host, SPVP, HU; and medeleg.
 fn registers(rng: &mut Rng, privilege: u64) -> String {
     let mut lines = String::new();
@@ -90,15 +101,8 @@ fn registers(rng: &mut Rng, privilege: u64) -> String {
     } else {
         rng.pick(&[0x8_0006, 0x2000_0000])
     };
-    hold(0x280, if rng.chance(20) { 0 } else { 8 << 60 | root });
-    hold(
-        0x680,
-        if rng.chance(20) {
-            0
-        } else {
-            8 << 60 | BASE >> 12
-        },
-    );
+    hold(0x280, tables(rng, root));
+    hold(0x680, tables(rng, BASE >> 12));
     hold(0x200, 0x2_0000_0000 | rng.below(4) << 18);
     hold(0x300, 0xa_0000_0000 | rng.below(4) << 18);
     hold(0x600, 0x2_0000_0200 | privilege << 8);

@@ -381,6 +381,7 @@ fn header_defines_what_the_calls_answer() {
         ("ACCESS_WORDS", size("ACCESS")),
         ("TRANSLATION_WORDS", size("TRANSLATION")),
         ("GUEST_WORDS", size("PERFORMED")),
+        ("PLACES", size("PLACES")),
         ("DONE", came_to(wfi(&reset(0, 3, 0), 0))),
         ("TRAPPED", came_to(ecall(&reset(0, 3, 0)))),
         ("ADDRESS", translated(0, 0, 4).1),
