@@ -9,7 +9,7 @@ use native.Mathlib.Omega.{arith}
 use lib.Dec.{ltb}
 use lib.Seq.{drop-cons}
 use borrow.Author.Tests.{ltb-true, ltb-false}
-use lib.ListN.{length, getD, set, drop, drop-of-length-le, List·getD-eq-default}
+use lib.ListN.{length, replicate, length-replicate, getD, set, drop, drop-of-length-le, List·getD-eq-default}
 use Rattle.bits.specs.Every.{every}
 use Rattle.bits.proofs.Bools.{and-left, and-right, both}
 
@@ -23,6 +23,10 @@ from f (x ∷ xs) i d t (suc k) h =
 
 pub every-at : {A : Type 0} (f : ℕ → A → Bool) (xs : List A) (d : A) → every f 0 xs ≡ true → (k : ℕ) → k < length xs → f k (getD xs k d) ≡ true
 every-at f xs d t k h = subst (λ (m : ℕ). f m (getD xs k d) ≡ true) (zero-add k) (from f xs 0 d t k h)
+
+-- a test that holds of each number below n
+pub every-below : (f : ℕ → Bool) (n : ℕ) → every (λ i (x : ℕ). f i) 0 (replicate n 0) ≡ true → (k : ℕ) → k < n → f k ≡ true
+every-below f n t k h = every-at (λ i (x : ℕ). f i) (replicate n 0) 0 t k (rw length-replicate h)
 
 -- and past the end too, if the default has it
 pub every-any : {A : Type 0} (f : ℕ → A → Bool) (xs : List A) (d : A) → every f 0 xs ≡ true → ((k : ℕ) → f k d ≡ true) → (k : ℕ) → f k (getD xs k d) ≡ true

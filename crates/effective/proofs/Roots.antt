@@ -4,12 +4,11 @@ use mathlib.Core.Bool.{Bool, true, false}
 use Prim.Native.Nat.{ℕ, _*_, _/_, _%_, _^_, _<_, _≤_}
 use native.Mathlib.Omega.{arith}
 use lib.Dec.{eqb}
-use lib.ListN.{replicate}
 use borrow.Author.Tests.{eqb-true}
 use Rattle.bits.specs.Field.{pick, get}
 use Rattle.bits.specs.Every.{every}
 use Rattle.bits.proofs.Bools.{pick-both}
-use Rattle.bits.proofs.Every.{every-at}
+use Rattle.bits.proofs.Every.{every-below}
 use Rattle.bits.proofs.Fields.{get-lt}
 use Rattle.registers.specs.Fields.{MODE, PPN}
 use Rattle.access.specs.declared.Root.{Root}
@@ -29,15 +28,12 @@ each-depth P mode none three four five = go (eqb mode 0) (eqb mode 8) (eqb mode 
     go false false false = five
 
 -- four bits for each MODE
-abbrev is-packed : ℕ → ℕ → Bool
-is-packed mode x = eqb (0x5555554355555550 / 2 ^ (4 * mode) % 16) (depth mode)
+abbrev four-bits : ℕ → ℕ
+four-bits mode = 0x5555554355555550 / 2 ^ (4 * mode) % 16
 
-all-packed : every is-packed 0 (replicate 16 0) ≡ true
+pub packed : (mode : ℕ) → mode < 16 → four-bits mode ≡ depth mode
 unfolding every depth
-all-packed = refl
-
-pub packed : (mode : ℕ) → mode < 16 → 0x5555554355555550 / 2 ^ (4 * mode) % 16 ≡ depth mode
-packed mode small = eqb-true _ _ (every-at is-packed (replicate 16 0) 0 all-packed mode small)
+packed mode small = eqb-true _ _ (every-below (λ m. eqb (four-bits m) (depth m)) 16 refl mode small)
 
 pub bare-depth : (x : ℕ) → isBare x ≡ true → depth (get MODE x) ≡ 0
 unfolding depth

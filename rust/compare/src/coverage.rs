@@ -5,6 +5,7 @@
 //! were delivered and where to, which are not in any answer).
 
 pub mod bits;
+pub mod depths;
 pub mod guest;
 pub mod interrupts;
 pub mod words;
@@ -18,9 +19,10 @@ use second::hypervisor::Operation;
 use second::registers::{find, Row, ROWS};
 use second::script::{Answer, Instruction, Line, Session};
 use second::trap::{Ending, Target, Trap};
-use second::walk::{self, translate, Key, Kind, Part, Rule};
+use second::walk::{self, translate, Key, Kind, Part, Rule, PLACES};
 
 use crate::coverage::bits::Bits;
+use crate::coverage::depths::Deep;
 use crate::coverage::guest::{has_mprv, Guest};
 use crate::coverage::interrupts::Interrupts;
 use crate::coverage::words::Words;
@@ -73,7 +75,7 @@ pub enum Meeting {
 }
 
 /// A translation, by its word, and the rule that ended it.
-type Ended = (&'static str, Key);
+pub type Ended = (&'static str, Key);
 
 /// One bit of a hart that passes check 2 flipped: the mode of that hart, what met it, the word and the bit.
 pub type Flip = (Mode, Meeting, usize, u32);
@@ -125,6 +127,8 @@ pub struct Coverage {
     pub instruction_words: Words,
     /// Hypervisor loads and stores.
     pub guest: Guest,
+    /// Depths of tables, and MODEs.
+    pub deep: Deep,
     /// Refusals by event word and number.
     pub refused_words: BTreeMap<(&'static str, u64), u64>,
     /// Single flipped bits.
@@ -240,6 +244,7 @@ impl Coverage {
     /// Notes a line of a script, what it met and its answer.
     pub fn note(&mut self, line: &Line, met: &Before, answer: &Answer) {
         self.guest.note(line, met, answer);
+        self.deep.note(line, met, answer);
         let before = &met.hart;
         self.instruction_words.note(line, before, answer);
         let Some(word) = event_word(line) else {
@@ -401,6 +406,7 @@ impl Coverage {
         self.bits.add(&other.bits);
         self.instruction_words.add(&other.instruction_words);
         self.guest.add(&other.guest);
+        self.deep.add(&other.deep);
         add(&mut self.refused_words, &other.refused_words);
         add(&mut self.flips, &other.flips);
         add(&mut self.refusals, &other.refusals);
@@ -456,13 +462,13 @@ impl Coverage {
                 missing.push(format!("refusal {number}"));
             }
         }
-        for length in 0..=15 {
+        for length in 0..=PLACES as u64 {
             if !self.lengths.contains_key(&length) {
                 missing.push(format!("a list of {length} reads"));
             }
         }
         for stage in 1..=2 {
-            for level in 0..3 {
+            for level in 0..5 {
                 if !self.reads.contains_key(&(stage, level)) {
                     missing.push(format!("a read of stage {stage} at level {level}"));
                 }
@@ -510,6 +516,7 @@ impl Coverage {
         missing.extend(self.bits.missing());
         missing.extend(self.instruction_words.missing());
         missing.extend(self.guest.missing());
+        missing.extend(self.deep.missing());
         if self.bad_lines == 0 {
             missing.push("a bad line".to_string());
         }
@@ -578,6 +585,7 @@ impl Coverage {
         self.bits.table(text);
         self.instruction_words.table(text);
         self.guest.table(text);
+        self.deep.table(text);
     }
 
     fn table_of_answers(&self, text: &mut String) {
@@ -656,6 +664,24 @@ impl Coverage {
     }
 }
 
+/// How many of the cases of each kind were reached, of how many, for people.
+fn table_of_kinds<'a>(cases: impl Iterator<Item = (&'a str, bool)>) -> String {
+    let mut kinds: Vec<(&str, [usize; 2])> = Vec::new();
+    for (kind, reached) in cases {
+        let known = kinds.iter().position(|(known, _)| *known == kind);
+        let place = known.unwrap_or_else(|| {
+            kinds.push((kind, [0, 0]));
+            kinds.len() - 1
+        });
+        kinds[place].1[0] += usize::from(reached);
+        kinds[place].1[1] += 1;
+    }
+    let counts = kinds.iter();
+    let counts =
+        counts.map(|(kind, [reached, there_are])| format!("{kind}: {reached} of {there_are}"));
+    counts.collect::<Vec<String>>().join("; ")
+}
+
 /// Whether a register is stored.
 pub fn is_stored(row: &Row) -> bool {
     Hart::new(0, 3, 0).stored(row.number).is_some()
@@ -690,14 +716,27 @@ pub fn reachable_rules() -> Vec<Key> {
         Part::HgatpForEntry,
         Part::HgatpForAccess,
     ] {
-        rules.push((Rule::HighBits, part, None));
-        for level in 0..3 {
+        for bits in address_bits(part) {
+            rules.push((Rule::HighBits(*bits), part, None));
+        }
+        for level in 0..5 {
             for rule in entry_rules(part, level) {
                 rules.push((rule, part, Some(level)));
             }
         }
     }
     rules
+}
+
+/// How many bits of its address a part may take, by the depth of its tables, where it can be given more. (A guest entry's address has
+/// 56 bits: never too many for Sv57x4.)
+pub fn address_bits(part: Part) -> &'static [u32] {
+    match part {
+        Part::Access => &[],
+        Part::Satp | Part::Vsatp => &[39, 48, 57],
+        Part::HgatpForEntry => &[41, 50],
+        Part::HgatpForAccess => &[41, 50, 59],
+    }
 }
 
 /// The rules about an entry that can hold at a part and level.
@@ -746,7 +785,7 @@ fn ends(event: &str, (rule, part, _): &Key) -> bool {
 }
 
 /// Every rule that can end a fetch, a load and a store.
-fn ending_rules() -> Vec<Ended> {
+pub fn ending_rules() -> Vec<Ended> {
     let of_event = |event| {
         let rules = reachable_rules().into_iter();
         rules.map(move |key| (event, key))
@@ -836,10 +875,13 @@ mod tests {
         let missing = Coverage::default().missing();
         for needed in [
             "refusal 4",
-            "a list of 15 reads",
+            "a list of 35 reads",
             "cause 23 delivered to M",
             "cause 20 of a guest entry delivered to Hs",
             "the rule NotReadable at level 1 of HgatpForEntry, by fetch",
+            "the rule LargeLeafLowPpn at level 4 of Vsatp, by store",
+            "the rule HighBits(59) of HgatpForAccess, by load",
+            "a read of stage 2 at level 4",
             "the event word wfi",
             "the event word interrupt",
             "a refused interrupt",
@@ -901,7 +943,7 @@ mod tests {
             let answer = session.perform(&line).unwrap();
             coverage.note(&line, &before, &answer);
         }
-        let key = (Rule::HighBits, Part::HgatpForEntry, None);
+        let key = (Rule::HighBits(41), Part::HgatpForEntry, None);
         assert_eq!(coverage.rules, BTreeMap::from([(("store", key), 1)]));
         let delivered = BTreeMap::from([((23, Target::Hs), 1)]);
         assert_eq!(coverage.of_entries, delivered);
@@ -911,6 +953,7 @@ mod tests {
     fn rules_are_each_named_once() {
         let mut rules = ending_rules();
         let length = rules.len();
+        assert_eq!(length, 743);
         rules.sort();
         rules.dedup();
         assert_eq!(rules.len(), length);

@@ -7,7 +7,8 @@ use second::hart::Mode;
 use crate::coverage::Coverage;
 use crate::program::Script;
 use crate::scenes::{
-    bad, edges, flips, guest, interrupts, journeys, long, refusals, registers, traps, walks, words,
+    bad, depths, edges, flips, guest, interrupts, journeys, long, refusals, registers, traps,
+    walks, words,
 };
 use crate::scribe::Scribe;
 
@@ -63,6 +64,14 @@ pub fn guest_script(seed: u64, folder: &Path) -> (Script, Coverage) {
     let place = !(2 * Mode::ALL.len() as u64 + 1);
     let mut scribe = Scribe::new(script_seed(seed, place), folder.to_path_buf());
     guest::all_in_turn(&mut scribe);
+    explained(scribe)
+}
+
+/// A script with everything that depths of tables and MODEs can come to. It always asks for reasons too.
+pub fn depths_script(seed: u64, folder: &Path) -> (Script, Coverage) {
+    let place = !(2 * Mode::ALL.len() as u64 + 2);
+    let mut scribe = Scribe::new(script_seed(seed, place), folder.to_path_buf());
+    depths::all_in_turn(&mut scribe);
     explained(scribe)
 }
 
@@ -160,7 +169,7 @@ impl Sweep {
 
 /// One scene. Half of all events are translations through tables.
 fn scene(scribe: &mut Scribe) {
-    match scribe.rng.below(113) {
+    match scribe.rng.below(115) {
         0..=29 => walks::walks(scribe),
         30..=44 => registers::accesses(scribe),
         45..=49 => registers::write_rules(scribe),
@@ -175,6 +184,7 @@ fn scene(scribe: &mut Scribe) {
         95..=97 => edges::edges(scribe),
         98..=105 => interrupts::events(scribe),
         106..=111 => interrupts::views(scribe),
+        112..=113 => edges::address_spaces(scribe),
         _ if scribe.rng.chance(20) => edges::large_images(scribe),
         _ => edges::files(scribe),
     }

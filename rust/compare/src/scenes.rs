@@ -1,6 +1,7 @@
 //! The scenes that a script is made of. Each sets up a hart (and an image where it needs one) and lets events happen.
 
 pub mod bad;
+pub mod depths;
 pub mod edges;
 pub mod flips;
 pub mod guest;
@@ -12,3 +13,4 @@ pub mod registers;
 pub mod traps;
 pub mod walks;
 pub mod words;
+pub mod world;

@@ -177,7 +177,7 @@ impl Scribe {
         }
         let is_atp = matches!(row.name, "satp" | "vsatp" | "hgatp");
         if is_atp && self.rng.chance(70) {
-            let mode = self.rng.pick(&[0, 8]);
+            let mode = self.rng.pick(&[0, 8, 9, 10]);
             (value & 0x0fff_ffff_ffff_ffff) | (mode << 60)
         } else {
             value

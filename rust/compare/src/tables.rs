@@ -1,4 +1,5 @@
-//! Page tables of both stages, written into an image by `put` lines. They are well formed; the scenes damage them afterwards.
+//! Page tables of both stages, of three, four or five levels, written into an image by `put` lines. They are well formed; the scenes
+//! damage them afterwards.
 
 use std::collections::HashMap;
 
@@ -26,7 +27,7 @@ pub const D: u64 = 1 << 7;
 pub const LEAF_BITS: u64 = R | W | X | U | A | D;
 
 /// The low bits of an address that a leaf of this level keeps.
-fn offset_bits(level: u64) -> u64 {
+pub fn offset_bits(level: u64) -> u64 {
     12 + 9 * level
 }
 
@@ -34,13 +35,43 @@ fn low_ones(count: u64) -> u64 {
     (1 << count) - 1
 }
 
+/// How many levels the tables of a stage that is on can have.
+pub const DEPTHS: [u64; 3] = [3, 4, 5];
+
+/// How many bits of a virtual address tables of so many levels translate: 39, 48 or 57.
+pub fn first_bits(levels: u64) -> u64 {
+    offset_bits(levels)
+}
+
+/// How many bits of a guest physical address they translate: 41, 50 or 59.
+pub fn second_bits(levels: u64) -> u64 {
+    offset_bits(levels) + 2
+}
+
+/// satp, vsatp or hgatp without ASID or VMID: the MODE for so many levels (8, 9 or 10), and the root.
+pub fn atp(levels: u64, root: u64) -> u64 {
+    ((levels + 5) << 60) | (root >> 12)
+}
+
+/// The bits above these made equal to the highest of them.
+pub fn sign_extended(address: u64, bits: u64) -> u64 {
+    let above = 64 - bits;
+    (((address << above) as i64) >> above) as u64
+}
+
+/// An address with as many low bits of the target's as a leaf of this level keeps.
+pub fn with_low_bits(address: u64, level: u64, target: u64) -> u64 {
+    let kept = low_ones(offset_bits(level));
+    (address & !kept) | (target & kept)
+}
+
 /// A pointer to a table.
-fn pointer(table: u64) -> u64 {
+pub fn pointer(table: u64) -> u64 {
     ((table >> 12) << 10) | V
 }
 
 /// A leaf of this level for the page that `target` lies in.
-fn leaf(target: u64, level: u64, flags: u64) -> u64 {
+pub fn leaf(target: u64, level: u64, flags: u64) -> u64 {
     let page = target & !low_ones(offset_bits(level));
     ((page >> 12) << 10) | flags
 }
@@ -56,41 +87,51 @@ pub struct Mapping {
 
 /// Where new addresses are taken from: few indexes for the upper levels, so that tables are shared.
 struct Space {
-    tops: Vec<u64>,
-    middles: Vec<u64>,
-    top_bits: u32,
+    /// How many levels the tables have.
+    levels: u64,
+    /// How many indexes the root has.
+    top: u64,
+    /// The indexes of the pointers of each level from 1 up.
+    pointers: Vec<Vec<u64>>,
 }
 
 impl Space {
-    fn new(scribe: &mut Scribe, top_bits: u32) -> Space {
-        let top = 1 << top_bits;
-        // The highest and the lowest index are as likely as all others together.
-        let mut tops = vec![scribe.rng.below(top), scribe.rng.below(top)];
-        tops.push(scribe.rng.pick(&[0, top - 1, top / 2, top / 2 - 1]));
-        let middles = vec![scribe.rng.below(512), scribe.rng.pick(&[0, 511, 256])];
+    fn new(scribe: &mut Scribe, levels: u64, top: u64) -> Space {
+        let mut pointers = Vec::new();
+        for level in 1..levels {
+            pointers.push(if level == levels - 1 {
+                // One at an edge is as likely as another, or half as likely.
+                let edge = scribe.rng.pick(&[0, top - 1, top / 2, top / 2 - 1]);
+                let mut tops = vec![scribe.rng.below(top), edge];
+                if levels == 3 {
+                    tops.push(scribe.rng.below(top));
+                }
+                tops
+            } else if level == 1 {
+                vec![scribe.rng.below(512), scribe.rng.pick(&[0, 511, 256])]
+            } else {
+                let any = scribe.rng.below(512);
+                vec![scribe.rng.pick(&[any, any, 0, 511])]
+            });
+        }
         Space {
-            tops,
-            middles,
-            top_bits,
+            levels,
+            top,
+            pointers,
         }
     }
 
     /// An address for a leaf of this level: its low bits are those of the page it leads to.
     fn address(&self, scribe: &mut Scribe, level: u64, target: u64) -> u64 {
-        let top = if level == 2 {
-            scribe.rng.below(1 << self.top_bits)
-        } else {
-            scribe.rng.pick(&self.tops)
-        };
-        let middle = if level == 1 {
-            scribe.rng.below(512)
-        } else {
-            scribe.rng.pick(&self.middles)
-        };
-        let address = (top << 30) | (middle << 21) | (scribe.rng.below(512) << 12);
-        let from_target = low_ones(offset_bits(level));
-        let page = !0xfff;
-        ((address & !from_target) | (target & from_target)) & page
+        let top = self.levels - 1;
+        let mut address = 0;
+        for above in (level + 1..self.levels).rev() {
+            let index = scribe.rng.pick(&self.pointers[above as usize - 1]);
+            address |= index << offset_bits(above);
+        }
+        let entries = if level == top { self.top } else { 512 };
+        address |= scribe.rng.below(entries) << offset_bits(level);
+        with_low_bits(address, level, target) & !0xfff
     }
 }
 
@@ -103,6 +144,12 @@ struct FirstStage {
     /// Whether the tables are found through the second stage.
     through_second: bool,
     space: Space,
+}
+
+impl FirstStage {
+    fn levels(&self) -> u64 {
+        self.space.levels
+    }
 }
 
 /// An image with the tables of satp, vsatp and hgatp.
@@ -134,17 +181,20 @@ pub struct Tables {
 impl Tables {
     /// A new image and its tables.
     pub fn build(scribe: &mut Scribe) -> Tables {
-        let pages = 32 + scribe.rng.below(24);
+        let pages = 36 + scribe.rng.below(24);
         let length = pages << 12;
         let base = pick_base(scribe, length);
         scribe.line(&format!("image {base:x} {length:x}"));
-        let second_space = Space::new(scribe, 11);
+        let levels = scribe.rng.pick(&DEPTHS);
+        // Guest physical addresses that the first stage leads to have 56 bits.
+        let top = if levels == 5 { 256 } else { 2048 };
+        let second_space = Space::new(scribe, levels, top);
         let mut free: Vec<u64> = (0..pages).map(|page| base + (page << 12)).collect();
         let second_root = scribe.rng.chance(85).then(|| take_root(scribe, &mut free));
         shuffle(scribe, &mut free);
         let deep = scribe.rng.chance(50);
         let hgatp = match second_root {
-            Some(root) => (8 << 60) | (scribe.rng.below(1 << 14) << 44) | (root >> 12),
+            Some(root) => atp(levels, root) | (scribe.rng.below(1 << 14) << 44),
             None => (scribe.rng.bits() & 0x03ff_ffff_ffff_fffc) * scribe.rng.below(2),
         };
         let mut tables = Tables {
@@ -171,7 +221,7 @@ impl Tables {
         let Some(mut first) = self.first_stage(scribe, false) else {
             return;
         };
-        self.satp = (8 << 60) | (scribe.rng.below(1 << 16) << 44) | (first.root >> 12);
+        self.satp = atp(first.levels(), first.root) | (scribe.rng.below(1 << 16) << 44);
         for _ in 0..4 {
             let target = self.target(scribe);
             let mapping = self.map_first(scribe, &mut first, target);
@@ -185,7 +235,7 @@ impl Tables {
         let Some(mut first) = self.first_stage(scribe, through_second) else {
             return;
         };
-        self.vsatp = (8 << 60) | (scribe.rng.below(1 << 16) << 44) | (first.root >> 12);
+        self.vsatp = atp(first.levels(), first.root) | (scribe.rng.below(1 << 16) << 44);
         for _ in 0..5 {
             let machine = self.target(scribe);
             let flags = leaf_flags(scribe) | U;
@@ -201,15 +251,32 @@ impl Tables {
             let mapping = self.map_first(scribe, &mut first, target);
             self.guest.extend(mapping);
         }
+        self.build_beyond(scribe);
+    }
+
+    /// With Sv57x4 some pages at guest physical addresses of more than 56 bits, which no first stage leads to.
+    fn build_beyond(&mut self, scribe: &mut Scribe) {
+        if self.second_root.is_none() || self.second_space.levels < 5 {
+            return;
+        }
+        self.second_space = Space::new(scribe, 5, 2048);
+        for _ in 0..2 {
+            let machine = self.target(scribe);
+            let flags = leaf_flags(scribe) | U;
+            let page = self.guest_page(scribe, machine, flags);
+            self.guest_physical
+                .extend(page.map(|address| Mapping { address, flags }));
+        }
     }
 
     /// A first stage with an empty root.
     fn first_stage(&mut self, scribe: &mut Scribe, through_second: bool) -> Option<FirstStage> {
+        let levels = scribe.rng.pick(&DEPTHS);
         let mut first = FirstStage {
             root: 0,
             tables: HashMap::new(),
             through_second,
-            space: Space::new(scribe, 9),
+            space: Space::new(scribe, levels, 512),
         };
         first.root = self.new_first_table(scribe, &mut first)?;
         Some(first)
@@ -235,7 +302,7 @@ impl Tables {
             return Some(machine);
         };
         for _ in 0..8 {
-            let level = self.leaf_level(scribe);
+            let level = self.leaf_level(scribe, self.second_space.levels);
             let guest = self.second_space.address(scribe, level, machine);
             if self.map_second(scribe, root, guest, leaf(machine, level, flags), level) {
                 return Some(guest);
@@ -254,14 +321,16 @@ impl Tables {
         leaf_level: u64,
     ) -> bool {
         let mut table = root;
-        for level in (leaf_level + 1..3).rev() {
-            let place = table + 8 * second_index(guest, level);
+        let levels = self.second_space.levels;
+        for level in (leaf_level + 1..levels).rev() {
+            let place = table + 8 * second_index(guest, level, levels);
             let Some(below) = self.follow_or_new(scribe, place) else {
                 return false;
             };
             table = below;
         }
-        put_if_empty(scribe, table + 8 * second_index(guest, leaf_level), leaf)
+        let place = table + 8 * second_index(guest, leaf_level, levels);
+        put_if_empty(scribe, place, leaf)
     }
 
     /// The table that the entry at a machine address points to; a new one where the entry is empty.
@@ -284,7 +353,7 @@ impl Tables {
         target: u64,
     ) -> Option<Mapping> {
         for _ in 0..8 {
-            let level = self.leaf_level(scribe);
+            let level = self.leaf_level(scribe, first.levels());
             let address = first.space.address(scribe, level, target);
             let flags = leaf_flags(scribe);
             if self
@@ -292,7 +361,7 @@ impl Tables {
                 .is_some()
             {
                 return Some(Mapping {
-                    address: sign_extended(address),
+                    address: sign_extended(address, first_bits(first.levels())),
                     flags,
                 });
             }
@@ -310,7 +379,7 @@ impl Tables {
         leaf_level: u64,
     ) -> Option<()> {
         let mut table = *first.tables.get(&first.root)?;
-        for level in (leaf_level + 1..3).rev() {
+        for level in (leaf_level + 1..first.levels()).rev() {
             let place = table + 8 * first_index(address, level);
             let entry = scribe.session.image.read(Machine(place))?;
             let named = if entry == 0 {
@@ -328,12 +397,13 @@ impl Tables {
         put_if_empty(scribe, table + 8 * first_index(address, leaf_level), leaf).then_some(())
     }
 
-    /// The level of a new leaf.
-    fn leaf_level(&self, scribe: &mut Scribe) -> u64 {
-        if self.deep {
-            scribe.rng.pick(&[0, 0, 0, 0, 0, 0, 0, 0, 1, 2])
+    /// The level of a new leaf in tables of so many levels.
+    fn leaf_level(&self, scribe: &mut Scribe, levels: u64) -> u64 {
+        let small = if self.deep { 80 } else { 50 };
+        if scribe.rng.chance(small) {
+            0
         } else {
-            scribe.rng.pick(&[0, 0, 0, 1, 1, 2])
+            1 + scribe.rng.below(levels - 1)
         }
     }
 
@@ -362,20 +432,14 @@ impl Tables {
 }
 
 /// The index of a first-stage entry.
-fn first_index(address: u64, level: u64) -> u64 {
+pub fn first_index(address: u64, level: u64) -> u64 {
     (address >> offset_bits(level)) & 0x1ff
 }
 
-/// The index of a second-stage entry; the root has 2048.
-fn second_index(address: u64, level: u64) -> u64 {
-    let mask = if level == 2 { 0x7ff } else { 0x1ff };
+/// The index of an entry of a second stage of so many levels; the root has 2048.
+pub fn second_index(address: u64, level: u64, levels: u64) -> u64 {
+    let mask = if level == levels - 1 { 0x7ff } else { 0x1ff };
     (address >> offset_bits(level)) & mask
-}
-
-/// Bits 63:39 made equal to bit 38.
-fn sign_extended(address: u64) -> u64 {
-    let bits = 64 - 39;
-    (((address << bits) as i64) >> bits) as u64
 }
 
 /// Puts an entry where none is. False where one is.
@@ -418,14 +482,15 @@ fn leaf_flags(scribe: &mut Scribe) -> u64 {
     flags
 }
 
-/// A base: 0, 80000000, one at the end of the 56-bit space, or any; large leaves fit at every one.
+/// A base: 0, 80000000, one at the end of the 56-bit space or of a guest's, or any; large leaves fit at every one.
 fn pick_base(scribe: &mut Scribe, length: u64) -> u64 {
-    match scribe.rng.below(8) {
+    match scribe.rng.below(9) {
         0 => 0,
         1 => (1 << 56) - length,
         2 => scribe.rng.bits() & 0x7f_ffff_ffff_f000,
         3 => scribe.rng.bits() & 0x7f_ffff_c000_0000,
         4 => (1 << 41) - (length & !0x3fff),
+        8 => (1 << 50) - (length & !0x3fff),
         5 => scribe.rng.bits() & 0x0f_ffff_f000,
         _ => 0x8000_0000,
     }
@@ -448,5 +513,43 @@ fn shuffle(scribe: &mut Scribe, pages: &mut [u64]) {
     for place in 1..pages.len() {
         let other = scribe.rng.below(place as u64 + 1) as usize;
         pages.swap(place, other);
+    }
+}
+
+#[cfg(test)]
+mod tests {
+    use super::*;
+
+    #[test]
+    fn the_numbers_of_each_depth() {
+        assert_eq!(DEPTHS.map(first_bits), [39, 48, 57]);
+        assert_eq!(DEPTHS.map(second_bits), [41, 50, 59]);
+        let registers = DEPTHS.map(|levels| atp(levels, 0x8000_0000));
+        let expected = [8, 9, 10].map(|mode| (mode << 60) | 0x8_0000);
+        assert_eq!(registers, expected);
+    }
+
+    #[test]
+    fn addresses_and_indexes() {
+        assert_eq!(sign_extended(1 << 47, 48), 0xffff_8000_0000_0000);
+        assert_eq!(sign_extended(1 << 47, 57), 1 << 47);
+        let ones = (1 << 59) - 1;
+        assert_eq!(with_low_bits(ones, 4, 0), 0x7ff << 48);
+        assert_eq!(with_low_bits(0, 1, ones), 0x1f_ffff);
+        for levels in DEPTHS {
+            let top = levels - 1;
+            for level in 0..levels {
+                let index = if level == top { 0x7ff } else { 0x1ff };
+                assert_eq!(second_index(ones, level, levels), index);
+                assert_eq!(first_index(ones, level), 0x1ff);
+            }
+        }
+    }
+
+    #[test]
+    fn leaves_begin_at_a_multiple_of_their_size() {
+        assert_eq!(leaf(0x8000_9000, 0, V | R), (0x8_0009 << 10) | 3);
+        assert_eq!(leaf(0x180_8000_9000, 3, V | R), (0x1800_0000 << 10) | 3);
+        assert_eq!(leaf(0x180_8000_9000, 4, V | R), 3);
     }
 }

@@ -4,14 +4,16 @@
 use std::io;
 
 use compare::comparing::{compare, Difference, Failure, Options, FULL_RUN};
+use compare::coverage::depths;
 use compare::coverage::guest::Case;
-use compare::coverage::{event_word, Meeting};
-use compare::generate::{guest_script, words_script};
+use compare::coverage::{ending_rules, event_word, Ended, Meeting};
+use compare::generate::{depths_script, guest_script, words_script};
 use compare::program::{model, Folder, InProcess, Outcome, Perform, Program, Script, Status};
+use compare::tables::sign_extended;
 use compare::words::Fields;
 use second::access::Action;
 use second::address::{GuestPhysical, Machine};
-use second::bits::{bit, with_bit};
+use second::bits::{bit, with_bit, with_field};
 use second::hart::{BadHart, Hart, Mode};
 use second::hypervisor::{GuestAccess, Operation, Reached};
 use second::image::{BadImage, Image};
@@ -19,15 +21,17 @@ use second::interrupts::{self, Rule as LevelRule};
 use second::lines::LONGEST_LINE;
 use second::reasons::Reason;
 use second::registers::{
-    mpp, Wrong, HGEIE, HGEIP, HIP, HSTATUS_GVA, HU, HVIP, MIDELEG, MIE, MIP, MPRV, MPV,
-    MSTATUS_GVA, MXR, ROWS, SIE, SIE_REGISTER, SIP, SPP, SPV, SPVP, SUM, VSIE,
+    mpp, Wrong, HGATP, HGEIE, HGEIP, HIP, HSTATUS_GVA, HU, HVIP, MIDELEG, MIE, MIP, MPRV, MPV,
+    MSTATUS_GVA, MXR, ROWS, SATP, SIE, SIE_REGISTER, SIP, SPP, SPV, SPVP, SUM, VSATP, VSIE,
 };
 use second::script::{Answer, Bad, Line, Session};
 use second::trap::{
     self, deliver, deliver_to, illegal, virtual_instruction, BadRequest, Control, Ending,
     Forbidden, Refusal, Target, Trap, INTERRUPT_BIT,
 };
-use second::walk::{self, effective_mode, Access, BadAccess, Kind, Part, Rule, Why};
+use second::walk::{
+    self, effective_mode, first_stage_takes, Access, BadAccess, Kind, Part, Rule, Why,
+};
 use second::word::Explanation;
 
 /// Compares the model with an altered copy over at most this many events.
@@ -1799,10 +1803,345 @@ fn copies_with_a_slip_in_hypervisor_loads_and_stores_are_shrunk() {
     }
 }
 
+// Copies with a slip in what change request 2026-05 asks for.
+
+/// MODE of a satp, vsatp or hgatp.
+fn mode_of(atp: u64) -> u64 {
+    atp >> 60
+}
+
+/// The MODE of the first stage that a hart's own accesses walk; Bare in M.
+fn first_mode(hart: &Hart) -> u64 {
+    match hart.checked_mode() {
+        Some(Mode::U | Mode::Hs) => mode_of(hart.satp),
+        Some(Mode::Vu | Mode::Vs) => mode_of(hart.vsatp),
+        _ => 0,
+    }
+}
+
+/// hgatp's MODE where the hart's own accesses walk nothing else.
+fn second_mode(hart: &Hart) -> u64 {
+    let alone = hart.v == 1 && mode_of(hart.vsatp) == 0;
+    if alone {
+        mode_of(hart.hgatp)
+    } else {
+        0
+    }
+}
+
+/// The model with another address in the place of a translation's, which its fault does not show.
+fn with_other_address(
+    session: &mut Session,
+    line: &Line,
+    other: fn(&Hart, u64) -> Option<u64>,
+) -> Result<Answer, Bad> {
+    let Line::Translate(access) = line else {
+        return session.perform(line);
+    };
+    let Some(address) = other(&session.hart, access.address) else {
+        return session.perform(line);
+    };
+    let mut answer = session.perform(&Line::Translate(Access { address, ..*access }))?;
+    if let Answer::Translation(translation) = &mut answer {
+        if let walk::Answer::Fault(trap) = &mut translation.answer {
+            trap.value = access.address;
+            if trap.second == address >> 2 {
+                trap.second = access.address >> 2;
+            }
+        }
+    }
+    Ok(answer)
+}
+
+/// The model with eleven bits of the index at a level below the root of a second stage with this MODE: it reads an entry elsewhere.
+fn wide_index<const MODE: u64, const LEVEL: u64>(
+    session: &mut Session,
+    line: &Line,
+) -> Result<Answer, Bad> {
+    let mode = second_mode(&session.hart);
+    let mut answer = session.perform(line)?;
+    if let (Line::Translate(access), Answer::Translation(translation)) = (line, &mut answer) {
+        let above = (access.address >> (21 + 9 * LEVEL)) & 3;
+        let used = translation.list.count;
+        for read in &mut translation.list.places[..used] {
+            if (mode, read.level) == (MODE, LEVEL) {
+                read.address += above << 12;
+            }
+        }
+    }
+    Ok(answer)
+}
+
+/// The model where a leaf of this level may have any PPN, of which it uses what it must.
+fn any_ppn<const LEVEL: u64>(session: &mut Session, line: &Line) -> Result<Answer, Bad> {
+    let answer = session.perform(line)?;
+    let Answer::Translation(translation) = &answer else {
+        return Ok(answer);
+    };
+    let Some(why) = translation.why else {
+        return Ok(answer);
+    };
+    if (why.rule, why.level) != (Rule::LargeLeafLowPpn, Some(LEVEL)) {
+        return Ok(answer);
+    }
+    let place = Machine(why.address);
+    let entry = session.image.read(place).unwrap();
+    let low = ((1 << (9 * LEVEL)) - 1) << 10;
+    session.image.put(place, entry & !low);
+    let mut answer = session.perform(line);
+    session.image.put(place, entry);
+    if let Ok(Answer::Translation(translation)) = &mut answer {
+        for read in &mut translation.list.places {
+            if read.address == place.0 && read.stage > 0 {
+                read.value = entry;
+            }
+        }
+    }
+    answer
+}
+
+/// The model with another content of satp, vsatp or hgatp after a write to it. `change` is given its place, its number, what it held
+/// and what was written.
+fn atp_with(
+    session: &mut Session,
+    line: &Line,
+    change: fn(&mut u64, u64, u64, u64),
+) -> Result<Answer, Bad> {
+    let v = session.hart.v;
+    let answer = session.perform(line)?;
+    let (Line::Register { number, action, .. }, Answer::Register(accessed)) = (line, &answer)
+    else {
+        return Ok(answer);
+    };
+    let old = accessed.old;
+    let written = match *action {
+        Action::Write(value) => value,
+        Action::Set {
+            value,
+            writes: true,
+        } => old | value,
+        Action::Clear {
+            value,
+            writes: true,
+        } => old & !value,
+        _ => return Ok(answer),
+    };
+    if accessed.outcome.ending == Ending::Done {
+        let held = number + 0x100 * v;
+        let is_atp = [SATP, VSATP, HGATP].contains(&held);
+        if let (true, Some(place)) = (is_atp, session.hart.stored_mut(held)) {
+            change(place, held, old, written);
+        }
+    }
+    Ok(answer)
+}
+
+/// satp, vsatp and hgatp of a hart.
+fn atps(hart: &mut Hart) -> [&mut u64; 3] {
+    [&mut hart.satp, &mut hart.vsatp, &mut hart.hgatp]
+}
+
+/// The model with another hart for a translation.
+fn translated_with(
+    session: &mut Session,
+    line: &Line,
+    change: fn(&mut Hart),
+) -> Result<Answer, Bad> {
+    match line {
+        Line::Translate(_) => with_other_hart(session, line, change),
+        _ => session.perform(line),
+    }
+}
+
+/// The slips in depths and MODEs.
+const DEPTH_SLIPS: [(&str, Perform); 22] = [
+    ("eleven index bits at level 2 of Sv48x4", wide_index::<9, 2>),
+    (
+        "eleven index bits at level 2 of Sv57x4",
+        wide_index::<10, 2>,
+    ),
+    (
+        "eleven index bits at level 3 of Sv57x4",
+        wide_index::<10, 3>,
+    ),
+    ("nine index bits at the top of Sv48x4", |session, line| {
+        with_other_address(session, line, |hart, address| {
+            (second_mode(hart) == 9 && address >> 50 == 0).then_some(address & !(3 << 48))
+        })
+    }),
+    ("nine index bits at the top of Sv57x4", |session, line| {
+        with_other_address(session, line, |hart, address| {
+            (second_mode(hart) == 10 && address >> 59 == 0).then_some(address & !(3 << 57))
+        })
+    }),
+    ("Sv57's test of addresses at Sv48", |session, line| {
+        with_other_address(session, line, |hart, address| {
+            let passes = first_stage_takes(address, 57);
+            (first_mode(hart) == 9 && passes).then_some(sign_extended(address, 48))
+        })
+    }),
+    ("Sv48's test of addresses at Sv57", |session, line| {
+        with_other_address(session, line, |hart, address| {
+            let passes = first_stage_takes(address, 48);
+            (first_mode(hart) == 10 && !passes).then_some(sign_extended(address, 57) ^ (1 << 63))
+        })
+    }),
+    ("Sv57x4's test of addresses at Sv48x4", |session, line| {
+        with_other_address(session, line, |hart, address| {
+            let passes = address >> 59 == 0;
+            (second_mode(hart) == 9 && passes).then_some(address & ((1 << 50) - 1))
+        })
+    }),
+    ("Sv48x4's test of addresses at Sv57x4", |session, line| {
+        with_other_address(session, line, |hart, address| {
+            let passes = address >> 50 == 0;
+            (second_mode(hart) == 10 && !passes).then_some(address | (1 << 63))
+        })
+    }),
+    ("a list of 34 places", |session, line| {
+        let mut answer = session.perform(line)?;
+        let list = match &mut answer {
+            Answer::Translation(translation) => &mut translation.list,
+            Answer::Guest(reached) => &mut reached.list,
+            _ => return Ok(answer),
+        };
+        list.places[34] = walk::Read::default();
+        list.count = list.count.min(34);
+        Ok(answer)
+    }),
+    ("the depth of vsatp used for hgatp", |session, line| {
+        translated_with(session, line, |hart| {
+            if mode_of(hart.vsatp) != 0 && mode_of(hart.hgatp) != 0 {
+                hart.hgatp = with_field(hart.hgatp, 60, 4, mode_of(hart.vsatp));
+            }
+        })
+    }),
+    ("the depth of hgatp used for vsatp", |session, line| {
+        translated_with(session, line, |hart| {
+            if mode_of(hart.vsatp) != 0 && mode_of(hart.hgatp) != 0 {
+                hart.vsatp = with_field(hart.vsatp, 60, 4, mode_of(hart.hgatp));
+            }
+        })
+    }),
+    ("a walk that starts at level 2", |session, line| {
+        translated_with(session, line, |hart| {
+            for atp in atps(hart) {
+                if matches!(mode_of(*atp), 9 | 10) {
+                    *atp = with_field(*atp, 60, 4, 8);
+                }
+            }
+        })
+    }),
+    ("any PPN in a leaf of level 3", any_ppn::<3>),
+    ("any PPN in a leaf of level 4", any_ppn::<4>),
+    ("a hart with MODE 9 refused", |session, line| {
+        translated_with(session, line, |hart| {
+            for atp in atps(hart) {
+                if mode_of(*atp) == 9 {
+                    *atp = with_field(*atp, 60, 4, 11);
+                }
+            }
+        })
+    }),
+    ("a hart with MODE 11 taken", |session, line| {
+        translated_with(session, line, |hart| {
+            for atp in atps(hart) {
+                if mode_of(*atp) == 11 {
+                    *atp = with_field(*atp, 60, 4, 10);
+                }
+            }
+        })
+    }),
+    ("MODE 11 taken", |session, line| {
+        atp_with(session, line, |place, _, _, written| {
+            if mode_of(written) == 11 {
+                *place = with_field(*place, 60, 4, 11);
+            }
+        })
+    }),
+    ("MODE 9 not taken", |session, line| {
+        atp_with(session, line, |place, held, old, written| {
+            if held != HGATP && mode_of(written) == 9 {
+                *place = old;
+            }
+        })
+    }),
+    ("MODE 10 not taken", |session, line| {
+        atp_with(session, line, |place, held, old, written| {
+            if held != HGATP && mode_of(written) == 10 {
+                *place = old;
+            }
+        })
+    }),
+    (
+        "hgatp keeps its MODE where 9 is written",
+        |session, line| {
+            atp_with(session, line, |place, held, old, written| {
+                if held == HGATP && mode_of(written) == 9 {
+                    *place = with_field(*place, 60, 4, mode_of(old));
+                }
+            })
+        },
+    ),
+    (
+        "another MODE in satp that writes the PPN",
+        |session, line| {
+            atp_with(session, line, |place, held, old, written| {
+                if held != HGATP && !matches!(mode_of(written), 0 | 8..=10) {
+                    *place = with_field(written, 60, 4, mode_of(old));
+                }
+            })
+        },
+    ),
+];
+
+/// The script with everything about depths is part of every run: it alone shows each slip in them, and few lines do.
+#[test]
+fn copies_with_a_slip_in_depths() {
+    let folder = Folder::new().unwrap();
+    let (script, _) = depths_script(42, folder.path());
+    let run = |perform| {
+        let program = InProcess {
+            name: "",
+            perform,
+            folder: &folder,
+        };
+        program.run(&script).unwrap()
+    };
+    let expected = run(model);
+    for (slip, perform) in DEPTH_SLIPS {
+        println!("{slip}");
+        assert_ne!(run(perform), expected, "{slip}");
+        caught(perform, 30);
+    }
+}
+
+/// It alone also reaches everything that is asked of depths, each rule that ends a translation and each length of a list.
+#[test]
+fn the_script_about_depths_reaches_all_of_them() {
+    let folder = Folder::new().unwrap();
+    let program = InProcess {
+        name: "the model",
+        perform: model,
+        folder: &folder,
+    };
+    for seed in 0..4 {
+        let (script, mut coverage) = depths_script(seed, folder.path());
+        coverage.read_output(&program.run(&script).unwrap().output);
+        assert_eq!(coverage.deep.missing(), Vec::<String>::new());
+        let rules = ending_rules().into_iter();
+        let missing: Vec<Ended> = rules
+            .filter(|ended| !coverage.rules.contains_key(ended))
+            .collect();
+        assert_eq!(missing, []);
+        assert!((0..=35).all(|length| coverage.lengths.contains_key(&length)));
+    }
+}
+
 // Copies whose answers are right, and only a reason is wrong.
 
 /// The wrong reasons.
-const WRONG_REASONS: [fn(&mut Reason); 31] = [
+const WRONG_REASONS: [fn(&mut Reason); 34] = [
     // Faults.
     |reason| fault(reason, |why| why.level = why.level.map(|level| level ^ 1)),
     |reason| {
@@ -2026,6 +2365,26 @@ const WRONG_REASONS: [fn(&mut Reason); 31] = [
             }
         })
     },
+    // Depths of tables.
+    |reason| {
+        fault(reason, |why| {
+            if matches!(why.rule, Rule::HighBits(48 | 57)) {
+                why.rule = Rule::HighBits(39);
+            }
+        })
+    },
+    |reason| {
+        fault(reason, |why| {
+            if let Rule::HighBits(bits @ (50 | 59)) = &mut why.rule {
+                *bits -= 2;
+            }
+        })
+    },
+    |reason| {
+        fault(reason, |why| {
+            why.level = why.level.map(|level| level.min(3))
+        })
+    },
 ];
 
 fn interrupt(reason: &mut Reason, change: fn(&mut interrupts::Why)) {
@@ -2120,6 +2479,9 @@ fn copies_with_a_wrong_reason() {
         wrong_reason::<28>,
         wrong_reason::<29>,
         wrong_reason::<30>,
+        wrong_reason::<31>,
+        wrong_reason::<32>,
+        wrong_reason::<33>,
     ];
     for (place, perform) in copies.into_iter().enumerate() {
         println!("wrong reason {place}");
@@ -2331,6 +2693,9 @@ fn a_run_reaches_everything() {
     assert!(words.cases.remove(&("wfi", "MRET", Fields::None)).is_some());
     let guest = &mut coverage.guest;
     assert!(guest.cases.remove(&Case::OwnTable { stage: 2 }).is_some());
+    let (part, levels, page) = (Part::HgatpForAccess, 4, 3);
+    let deepest = depths::Case::RootPage { part, levels, page };
+    assert!(coverage.deep.cases.remove(&deepest).is_some());
     guest.stored_bits.get_mut(&4).unwrap()[1] ^= 1 << 40;
     assert_eq!(
         coverage.missing()[3..],
@@ -2340,6 +2705,7 @@ fn a_run_reaches_everything() {
             "an event and its word: wfi and MRET",
             "a hypervisor load or store: OwnTable { stage: 2 }",
             "bits 10000000000 of VALUE as 0, by a store of 4 that is read back",
+            "of depths and MODEs: RootPage { part: HgatpForAccess, levels: 4, page: 3 }",
         ]
     );
     assert!(coverage.events >= 60_000);

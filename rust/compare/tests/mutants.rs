@@ -94,10 +94,10 @@ const MUTANTS: &[Mutant] = &[
     Mutant("walk.rs", "!matches!(self.width, 1 | 2 | 4 | 8)", "!matches!(self.width, 1 | 2 | 4 | 8 | 16)"),
     Mutant("walk.rs", "fetch && !self.address.is_multiple_of(4)", "fetch && !self.address.is_multiple_of(2)"),
     Mutant("walk.rs", "bit(hart.mstatus, MPRV) && kind != Kind::Fetch", "bit(hart.mstatus, MPRV)"),
-    Mutant("walk.rs", "let high = field(address, 38, 26);\n    high == 0 || high == low_ones(26)", "let high = field(address, 39, 25);\n    high == 0 || high == low_ones(25)"),
-    Mutant("walk.rs", "field(address.0, 41, 23) == 0", "field(address.0, 39, 25) == 0"),
-    Mutant("walk.rs", "field(address.0, 41, 23) == 0", "field(address.0, 41, 15) == 0"),
-    Mutant("walk.rs", "let width = if level == TOP_LEVEL { 11 } else { 9 };", "let width = 9;"),
+    Mutant("walk.rs", "let copies = 65 - bits;\n    let high = field(address, bits - 1, copies);", "let copies = 64 - bits;\n    let high = field(address, bits, copies);"),
+    Mutant("walk.rs", "field(address.0, bits, 64 - bits) == 0", "field(address.0, bits - 2, 66 - bits) == 0"),
+    Mutant("walk.rs", "field(address.0, bits, 64 - bits) == 0", "field(address.0, bits, 56u32.saturating_sub(bits)) == 0"),
+    Mutant("walk.rs", "let width = if level == top_level(levels) { 11 } else { 9 };", "let width = 9;"),
     Mutant("walk.rs", "bit(entry, PTE_W) && !bit(entry, PTE_R)", "bit(entry, PTE_W) && !bit(entry, PTE_R) && !bit(entry, PTE_X)"),
     Mutant("walk.rs", "field(entry, 54, 10) != 0", "field(entry, 55, 9) != 0"),
     Mutant("walk.rs", "field(entry, 54, 10) != 0", "field(entry, 54, 9) != 0"),
@@ -127,8 +127,8 @@ const MUTANTS: &[Mutant] = &[
     Mutant("walk.rs", "flag: self.mode.v(),", "flag: self.hart.v == 1,"),
     Mutant("walk.rs", "self.alignment()?;\n        let machine", "let machine"),
     Mutant("walk.rs", "Mode::U | Mode::Hs => Machine(self.first_stage(self.hart.satp)?)", "Mode::U | Mode::Hs => Machine(self.first_stage(self.hart.vsatp)?)"),
-    Mutant("walk.rs", "if atp_mode(hgatp) == BARE {", "if hgatp == 0 {"),
-    Mutant("walk.rs", "if atp_mode(atp) == BARE {", "if atp == 0 {"),
+    Mutant("walk.rs", "let Some(levels) = atp_levels(hgatp) else {", "let Some(levels) = (hgatp != 0).then(|| atp_levels(hgatp).unwrap_or(3)) else {"),
+    Mutant("walk.rs", "let Some(levels) = atp_levels(atp) else {", "let Some(levels) = (atp != 0).then(|| atp_levels(atp).unwrap_or(3)) else {"),
     Mutant("trap.rs", "Refusal::Image(_) => 1,", "Refusal::Image(_) => 3,"),
     Mutant("walk.rs", "field(entry, 10, 44)", "field(entry, 10, 43)"),
     Mutant("walk.rs", "    if let Some(bad) = image.refusal() {\n        return refused(Refusal::Image(bad));\n    }\n    if let Some(bad) = access.refusal() {\n        return refused(Refusal::Access(bad));\n    }\n", "    if let Some(bad) = access.refusal() {\n        return refused(Refusal::Access(bad));\n    }\n    if let Some(bad) = image.refusal() {\n        return refused(Refusal::Image(bad));\n    }\n"),
@@ -172,8 +172,8 @@ const MUTANTS: &[Mutant] = &[
     Mutant("walk.rs", "let second = guest.0 >> 2;", "let second = (guest.0 & !0xfff) >> 2;"),
     Mutant("walk.rs", "let second = guest.0 >> 2;", "let second = if purpose == Purpose::GuestEntry { self.access.address >> 2 } else { guest.0 >> 2 };"),
     Mutant("walk.rs", "value: self.access.address,", "value: self.access.address & low_ones(56),"),
-    Mutant("walk.rs", "field(address, offset_bits(level), 9)", "field(address, offset_bits(level), if level == TOP_LEVEL { 11 } else { 9 })"),
-    Mutant("walk.rs", "const TOP_LEVEL: u64 = 2;", "const TOP_LEVEL: u64 = 1;"),
+    Mutant("walk.rs", "field(address, offset_bits(level), 9)", "field(address, offset_bits(level), if level == 2 { 11 } else { 9 })"),
+    Mutant("walk.rs", "    levels - 1\n", "    levels - 2\n"),
     Mutant("image.rs", "u64::from_le_bytes(number)", "u64::from_be_bytes(number)"),
     Mutant("script.rs", "Some(byte) if is_blank(*byte) => trimmed(after),", "Some(byte) if is_blank(*byte) => next_word(after).0,"),
     Mutant("lines.rs", "(at_end && !self.line.is_empty())", "false"),
@@ -195,17 +195,17 @@ const MUTANTS: &[Mutant] = &[
     Mutant("trap.rs", "    after.stval = trap.value;", "    if !matches!(trap.cause, 8..=11) { after.stval = trap.value; }"),
     Mutant("trap.rs", "    after.mtval = trap.value;", "    if !matches!(trap.cause, 8..=11) { after.mtval = trap.value; }"),
     Mutant("waits.rs", "wait_or_fence(hart, word, |_, mode| hfence_trap(\"HFENCE.VVMA\", mode))", "wait_or_fence(hart, word, hfence_gvma_trap)"),
-    Mutant("walk.rs", "let width = if level == TOP_LEVEL { 11 }", "let width = if level == TOP_LEVEL || level == 0 { 11 }"),
-    Mutant("walk.rs", "self.fault(cause, second, purpose.word(), why)", "self.fault(cause, second, if why.rule == Rule::HighBits { 0 } else { purpose.word() }, why)"),
-    Mutant("walk.rs", "self.fault(cause, second, purpose.word(), why)", "self.fault(if purpose == Purpose::GuestEntry && why.rule == Rule::HighBits { 21 } else { cause }, second, purpose.word(), why)"),
+    Mutant("walk.rs", "let width = if level == top_level(levels) { 11 }", "let width = if level == top_level(levels) || level == 0 { 11 }"),
+    Mutant("walk.rs", "self.fault(cause, second, purpose.word(), why)", "self.fault(cause, second, if matches!(why.rule, Rule::HighBits(_)) { 0 } else { purpose.word() }, why)"),
+    Mutant("walk.rs", "self.fault(cause, second, purpose.word(), why)", "self.fault(if purpose == Purpose::GuestEntry && matches!(why.rule, Rule::HighBits(_)) { 21 } else { cause }, second, purpose.word(), why)"),
     Mutant("trap.rs", "matches!(trap.cause, 8..=11) && trap.value != 0", "matches!(trap.cause, 2 | 8..=11) && trap.value != 0"),
     Mutant("trap.rs", "matches!(trap.cause, 8..=11) && trap.value != 0", "matches!(trap.cause, 22 | 8..=11) && trap.value != 0"),
     Mutant("walk.rs", "self.right_of_access(entry, bit(self.hart.mstatus, MXR))?", "if !(self.access.kind == Kind::Fetch && bit(entry, PTE_R)) { self.right_of_access(entry, bit(self.hart.mstatus, MXR))? }"),
-    Mutant("walk.rs", "        let mut table = root_table(atp);", "        let mut table = root_table(atp) & if self.mode.v() && atp_mode(self.hart.hgatp) != BARE { low_ones(41) } else { !0 };"),
-    Mutant("walk.rs", "                    level = next;\n                    table = below;\n                }\n                Ok(Entry::Leaf { ppn }) => return Ok(leaf_result(ppn, address, level)),", "                    level = next;\n                    table = below & if self.mode.v() && atp_mode(self.hart.hgatp) != BARE { low_ones(41) } else { !0 };\n                }\n                Ok(Entry::Leaf { ppn }) => return Ok(leaf_result(ppn, address, level)),"),
-    Mutant("walk.rs", "return Ok(leaf_result(ppn, address, level)),", "return Ok(leaf_result(ppn, address, level) & if self.mode.v() && atp_mode(self.hart.hgatp) != BARE { low_ones(41) } else { !0 }),"),
-    Mutant("walk.rs", "if !sv39x4_well_formed(guest) {", "if purpose == Purpose::Access && !sv39x4_well_formed(guest) {"),
-    Mutant("walk.rs", "if !sv39x4_well_formed(guest) {", "if atp_mode(self.hart.vsatp) == BARE && !sv39x4_well_formed(guest) {"),
+    Mutant("walk.rs", "        let mut table = root_table(atp);", "        let mut table = root_table(atp) & if self.mode.v() && self.hart.hgatp >> 60 == 8 { low_ones(41) } else { !0 };"),
+    Mutant("walk.rs", "                    level = next;\n                    table = below;\n                }\n                Ok(Entry::Leaf { ppn }) => return Ok(leaf_result(ppn, address, level)),", "                    level = next;\n                    table = below & if self.mode.v() && self.hart.hgatp >> 60 == 8 { low_ones(41) } else { !0 };\n                }\n                Ok(Entry::Leaf { ppn }) => return Ok(leaf_result(ppn, address, level)),"),
+    Mutant("walk.rs", "return Ok(leaf_result(ppn, address, level)),", "return Ok(leaf_result(ppn, address, level) & if self.mode.v() && self.hart.hgatp >> 60 == 8 { low_ones(41) } else { !0 }),"),
+    Mutant("walk.rs", "if !second_stage_takes(guest, bits) {", "if purpose == Purpose::Access && !second_stage_takes(guest, bits) {"),
+    Mutant("walk.rs", "if !second_stage_takes(guest, bits) {", "if self.hart.vsatp >> 60 == 0 && !second_stage_takes(guest, bits) {"),
     Mutant("walk.rs", "accessed_and_dirty(entry, is_store)?;", "if purpose == Purpose::Access { accessed_and_dirty(entry, is_store)?; }"),
     Mutant("walk.rs", "accessed_and_dirty(entry, is_store)?;", "if purpose != Purpose::Access { accessed_and_dirty(entry, is_store)?; } else if is_store && !bit(entry, PTE_D) { return Err(Rule::NotDirty); }"),
     Mutant("walk.rs", "return Ok(leaf_result(ppn, address, level)),", "return Ok(leaf_result(ppn, address, level.min(1))),"),
@@ -361,7 +361,7 @@ const REASONS: &[Mutant] = &[
     // walk.rs
     Mutant("walk.rs", "self.why_of_access(Rule::AccessOutside, machine.0)", "self.why_of_access(Rule::AccessOutside, self.access.address)"),
     Mutant("walk.rs", "let why = self.why_of_entry(Rule::EntryOutside, stage, level, place);", "let why = self.why_of_stage(Rule::EntryOutside, stage, place.0);"),
-    Mutant("walk.rs", "let why = self.why_of_stage(Rule::HighBits, stage, guest.0);", "let why = self.why_of_stage(Rule::HighBits, stage, self.access.address);"),
+    Mutant("walk.rs", "let why = self.why_of_stage(Rule::HighBits(bits), stage, guest.0);", "let why = self.why_of_stage(Rule::HighBits(bits), stage, self.access.address);"),
     Mutant("walk.rs", "Stage::Second(guest, _) => Some(guest),", "Stage::Second(guest, _) => Some(GuestPhysical(guest.0 & !7)),"),
     Mutant("walk.rs", "Stage::Second(_, Purpose::Access) => Part::HgatpForAccess,", "Stage::Second(_, Purpose::Access) => Part::HgatpForEntry,"),
     Mutant("walk.rs", "Stage::First if self.mode.v() => Part::Vsatp,", "Stage::First if self.hart.v == 1 => Part::Vsatp,"),
@@ -763,6 +763,109 @@ const ENTRY_FAULTS: &[Mutant] = &[
     Mutant("walk.rs", "let cause = self.access.kind.guest_page_fault();", "let cause = if purpose == Purpose::GuestEntry && self.hart.privilege == 3 { 21 } else { self.access.kind.guest_page_fault() };"),
 ];
 
+/// In the depths of tables and the MODEs that choose them.
+const DEPTHS: &[Mutant] = &[
+    // MODE, written and come in.
+    Mutant("registers.rs", "const MODES: [u64; 4] = [BARE, SV39, SV48, SV57];", "const MODES: [u64; 3] = [BARE, SV39, SV57];"),
+    Mutant("registers.rs", "const MODES: [u64; 4] = [BARE, SV39, SV48, SV57];", "const MODES: [u64; 3] = [BARE, SV39, SV48];"),
+    Mutant("registers.rs", "const MODES: [u64; 4] = [BARE, SV39, SV48, SV57];", "const MODES: [u64; 5] = [BARE, SV39, SV48, SV57, 11];"),
+    Mutant("registers.rs", "pub const SV48: u64 = 9;", "pub const SV48: u64 = 11;"),
+    Mutant("registers.rs", "pub const SV57: u64 = 10;", "pub const SV57: u64 = 11;"),
+    Mutant("registers.rs", "allowed: &MODES,", "allowed: &[BARE, SV39],"),
+    Mutant("registers.rs", "allowed: &MODES,", "allowed: &[BARE, SV39, SV48],"),
+    Mutant("registers.rs", "allowed: &MODES,", "allowed: &[BARE, SV39, SV48, SV57, 11],"),
+    Mutant("registers.rs", "    MODES.contains(&atp_mode(atp))", "    matches!(atp_mode(atp), BARE | SV39)"),
+    Mutant("registers.rs", "    MODES.contains(&atp_mode(atp))", "    matches!(atp_mode(atp), 0 | 8..=11)"),
+    Mutant("registers.rs", "    if mode_is_allowed(value) {\n        value\n", "    if mode_is_allowed(value) && atp_mode(value) != SV57 {\n        value\n"),
+    Mutant("registers.rs", "        value\n    } else {\n        old\n    }", "        value\n    } else {\n        with_field(value, MODE_LOW, MODE_WIDTH, atp_mode(old))\n    }"),
+    Mutant("registers.rs", "        written\n    } else {\n        with_field(written, MODE_LOW", "        written\n    } else if atp_mode(value) == 11 {\n        old\n    } else {\n        with_field(written, MODE_LOW"),
+    Mutant("registers.rs", "    if mode_is_allowed(value) {\n        written\n", "    if mode_is_allowed(value) && atp_mode(value) != SV48 {\n        written\n"),
+    Mutant("registers.rs", "    if mode_is_allowed(value) {\n        written\n", "    if mode_is_allowed(value) && atp_mode(value) != SV57 {\n        written\n"),
+    // How many levels there are.
+    Mutant("registers.rs", "SV48 => Some(4),", "SV48 => Some(3),"),
+    Mutant("registers.rs", "SV48 => Some(4),", "SV48 => Some(5),"),
+    Mutant("registers.rs", "SV57 => Some(5),", "SV57 => Some(4),"),
+    Mutant("registers.rs", "SV57 => Some(5),", ""),
+    Mutant("walk.rs", "    levels - 1\n", "    2.min(levels)\n"),
+    Mutant("walk.rs", "    levels - 1\n", "    (levels - 1).min(3)\n"),
+    Mutant("walk.rs", "let Some(levels) = atp_levels(hgatp) else {", "let Some(levels) = atp_levels(hgatp).map(|own| atp_levels(self.hart.vsatp).unwrap_or(own)) else {"),
+    Mutant("walk.rs", "let Some(levels) = atp_levels(hgatp) else {", "let Some(levels) = atp_levels(hgatp).map(|own| if purpose == Purpose::GuestEntry { own.min(4) } else { own }) else {"),
+    Mutant("walk.rs", "let Some(levels) = atp_levels(atp) else {", "let Some(levels) = atp_levels(atp).map(|own| if self.mode.v() { atp_levels(self.hart.hgatp).unwrap_or(own) } else { own }) else {"),
+    // The list.
+    Mutant("walk.rs", "pub const PLACES: usize = 35;", "pub const PLACES: usize = 34;"),
+    Mutant("walk.rs", "pub const PLACES: usize = 35;", "pub const PLACES: usize = 15;"),
+    // The tests of addresses.
+    Mutant("walk.rs", "4 => 48,\n        _ => 57,", "_ => 57,"),
+    Mutant("walk.rs", "4 => 48,\n        _ => 57,", "_ => 48,"),
+    Mutant("walk.rs", "4 => 48,\n        _ => 57,", "4 => 47,\n        _ => 57,"),
+    Mutant("walk.rs", "4 => 48,\n        _ => 57,", "4 => 48,\n        _ => 56,"),
+    Mutant("walk.rs", "3 => 39,\n        4 => 48,", "3 => 39,\n        4 => 39,"),
+    Mutant("walk.rs", "4 => 50,\n        _ => 59,", "_ => 59,"),
+    Mutant("walk.rs", "4 => 50,\n        _ => 59,", "_ => 50,"),
+    Mutant("walk.rs", "4 => 50,\n        _ => 59,", "4 => 48,\n        _ => 59,"),
+    Mutant("walk.rs", "4 => 50,\n        _ => 59,", "4 => 50,\n        _ => 57,"),
+    Mutant("walk.rs", "4 => 50,\n        _ => 59,", "4 => 50,\n        _ => 60,"),
+    Mutant("walk.rs", "high == 0 || high == low_ones(copies)", "high == 0 || (bits < 57 && high == low_ones(copies))"),
+    // The index, and what a leaf leaves of the address.
+    Mutant("walk.rs", "let width = if level == top_level(levels) { 11 }", "let width = if level == 2 { 11 }"),
+    Mutant("walk.rs", "let width = if level == top_level(levels) { 11 }", "let width = if level == 2 || level == top_level(levels) { 11 }"),
+    Mutant("walk.rs", "let width = if level == top_level(levels) { 11 }", "let width = if level >= 3 || level == top_level(levels) { 11 }"),
+    Mutant("walk.rs", "let width = if level == top_level(levels) { 11 }", "let width = if level == top_level(levels) && levels != 4 { 11 }"),
+    Mutant("walk.rs", "let width = if level == top_level(levels) { 11 }", "let width = if level == top_level(levels) && levels != 5 { 11 }"),
+    Mutant("walk.rs", "        3 => 39,\n        _ => 48,", "        _ => 39,"),
+    Mutant("walk.rs", "        2 => 30,\n        3 => 39,\n        _ => 48,", "        2 | 3 => 30,\n        _ => 48,"),
+    Mutant("walk.rs", "        3 => 39,\n        _ => 48,", "        3 => 39,\n        _ => 49,"),
+    Mutant("walk.rs", "low_ones(offset_bits(level) - 12)", "low_ones((offset_bits(level) - 12).min(18))"),
+    Mutant("walk.rs", "low_ones(offset_bits(level) - 12)", "low_ones((offset_bits(level) - 12).min(27))"),
+    Mutant("walk.rs", "low_ones(offset_bits(level) - 12)", "low_ones(offset_bits(level.min(3)) - 12 + u32::from(level == 3))"),
+    Mutant("walk.rs", "let from_address = low_ones(offset_bits(level));", "let from_address = low_ones(offset_bits(level).min(30));"),
+    Mutant("walk.rs", "let from_address = low_ones(offset_bits(level));", "let from_address = low_ones(offset_bits(level).min(39));"),
+];
+
+/// In what is said about them.
+const DEPTH_REASONS: &[Mutant] = &[
+    Mutant(
+        "reasons.rs",
+        "                    bits - 1\n",
+        "                    bits\n",
+    ),
+    Mutant(
+        "reasons.rs",
+        "                    bits - 1\n",
+        "                    38\n",
+    ),
+    Mutant(
+        "reasons.rs",
+        "\"bits 63:{bits} of {address:x} are not all equal to bit {}\"",
+        "\"bits 63:{bits:x} of {address:x} are not all equal to bit {}\"",
+    ),
+    Mutant(
+        "reasons.rs",
+        "\"bits 63:{bits} of {address:x} are not all 0\"",
+        "\"bits 63:41 of {address:x} are not all 0\"",
+    ),
+    Mutant(
+        "reasons.rs",
+        "numbers.iter().map(|number| format!(\"{number:x}\"))",
+        "numbers.iter().map(u64::to_string)",
+    ),
+    Mutant(
+        "reasons.rs",
+        "numbers.iter().map(|number|",
+        "numbers.iter().filter(|number| **number != 9).map(|number|",
+    ),
+    Mutant(
+        "walk.rs",
+        "let why = self.why_of_stage(Rule::HighBits(bits), Stage::First, address);",
+        "let why = self.why_of_stage(Rule::HighBits(39), Stage::First, address);",
+    ),
+    Mutant(
+        "walk.rs",
+        "let why = self.why_of_stage(Rule::HighBits(bits), stage, guest.0);",
+        "let why = self.why_of_stage(Rule::HighBits(bits - 2), stage, guest.0);",
+    ),
+];
+
 fn source() -> PathBuf {
     Path::new(env!("CARGO_MANIFEST_DIR")).join("../second/src")
 }
@@ -779,6 +882,8 @@ fn every_mutant_still_fits_the_source() {
         GUEST,
         GUEST_LINES,
         ENTRY_FAULTS,
+        DEPTHS,
+        DEPTH_REASONS,
     ];
     for mutant in all.into_iter().flatten() {
         mutant.changed_text(&source());
@@ -906,4 +1011,16 @@ fn every_mutant_of_what_is_said_about_hypervisor_loads_and_stores_is_caught() {
 #[ignore = "takes minutes"]
 fn every_mutant_of_the_fault_of_a_guest_entry_is_caught() {
     check(ENTRY_FAULTS, |_| true);
+}
+
+#[test]
+#[ignore = "takes minutes"]
+fn every_mutant_of_depths_is_caught() {
+    check(DEPTHS, |_| true);
+}
+
+#[test]
+#[ignore = "takes minutes"]
+fn every_mutant_of_what_is_said_about_depths_is_caught() {
+    check(DEPTH_REASONS, |_| false);
 }

@@ -84,7 +84,7 @@ fn a_full_run_that_reaches_nothing_fails() {
     let text = said(&output);
     assert_eq!(output.status.code(), Some(1), "{text}");
     assert!(text.contains("not reached: refusal 4"), "{text}");
-    assert!(text.contains("not reached: a list of 15 reads"), "{text}");
+    assert!(text.contains("not reached: a list of 35 reads"), "{text}");
     assert!(
         text.contains("not reached: the reason \"mstatus.TW is 1\""),
         "{text}"

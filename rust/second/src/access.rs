@@ -468,16 +468,49 @@ mod tests {
         assert_eq!(access(&before, SSTATUS, Action::Read).old, 0x2_0004_0000);
     }
 
+    /// MODE 9 and 10 are taken; of MODE 11 satp and vsatp take nothing, hgatp everything but MODE. In VS 180 is vsatp.
+    #[test]
+    fn each_mode_written_to_satp_vsatp_and_hgatp() {
+        for (mode, number, held) in [
+            (Mode::Hs, SATP, SATP),
+            (Mode::Vs, SATP, VSATP),
+            (Mode::Hs, VSATP, VSATP),
+            (Mode::Hs, HGATP, HGATP),
+        ] {
+            for new in 0..16u64 {
+                for old in [
+                    0x8000_0000_0000_0120,
+                    0x9000_0000_0000_0120,
+                    0xa000_0000_0000_0120,
+                ] {
+                    let mut before = hart(mode);
+                    *before.stored_mut(held).unwrap() = old;
+                    let value = (new << 60) | 0x456_0000_0000_0450;
+                    let written = access(&before, number, Action::Write(value));
+                    let expected = match new {
+                        0 | 8 | 9 | 10 => value & !(u64::from(held == HGATP) << 58),
+                        _ if held == HGATP => (old & (0xf << 60)) | 0x056_0000_0000_0450,
+                        _ => old,
+                    };
+                    let mut after = before.moved_on();
+                    *after.stored_mut(held).unwrap() = expected;
+                    assert_eq!(written.outcome.hart, after, "{number:x} {new} over {old:x}");
+                    assert_eq!(written.old, old);
+                }
+            }
+        }
+    }
+
     #[test]
     fn an_ignored_write_is_still_done() {
         let mut before = hart(Mode::Hs);
         before.satp = 0x8000_0000_0000_0123;
-        let accessed = access(&before, SATP, Action::Write(0x9000_0000_0000_0456));
+        let accessed = access(&before, SATP, Action::Write(0xb000_0000_0000_0456));
         assert_eq!(accessed.old, 0x8000_0000_0000_0123);
         assert_eq!(accessed.outcome.hart, before.moved_on());
-        // A set sees the combined value: MODE 8 or 1 is 9, so nothing of it is written.
+        // A set sees the combined value: MODE 8 or 3 is 11, so nothing of it is written.
         let set = Action::Set {
-            value: 0x1000_0000_0000_0fff,
+            value: 0x3000_0000_0000_0fff,
             writes: true,
         };
         let accessed = access(&before, SATP, set);

@@ -410,6 +410,21 @@ mod tests {
         }
     }
 
+    /// "Document 01's stored bits and check 2 accept the new modes": 0, 8, 9 and 10 of sixteen.
+    #[test]
+    fn each_mode_of_satp_vsatp_and_hgatp_is_checked() {
+        for number in [registers::SATP, registers::VSATP, registers::HGATP] {
+            for mode in 0..16u64 {
+                for low in [0, 0x0000_0fff_ffff_fffc] {
+                    let mut hart = Hart::new(0, 3, 0);
+                    *hart.stored_mut(number).unwrap() = (mode << 60) | low;
+                    let passes = matches!(mode, 0 | 8 | 9 | 10);
+                    assert_eq!(hart.checked_mode().is_some(), passes, "{number:x} {mode}");
+                }
+            }
+        }
+    }
+
     #[test]
     fn mpp_2_is_refused() {
         for mpp in 0..4 {

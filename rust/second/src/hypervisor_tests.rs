@@ -8,8 +8,8 @@ use crate::image::BadImage;
 use crate::registers::{with_mpp, HSTATUS_GVA, MPRV, MPV, MSTATUS_GVA, MXR, SPP, SPV, SUM};
 use crate::trap::{request, Ending, Target, Trap};
 use crate::walk::tests::{
-    entry, A, ALL_RIGHTS, BASE, D, DATA, FIRST_0, FIRST_1, FIRST_ROOT, GUEST, LENGTH, R, SECOND_0,
-    SECOND_1, U, V, VIRTUAL, W, X,
+    deepest, entry, A, ALL_RIGHTS, BASE, D, DATA, FIRST_0, FIRST_1, FIRST_ROOT, GUEST, LENGTH, R,
+    SECOND_0, SECOND_1, U, V, VIRTUAL, W, X,
 };
 use crate::walk::{translate, Answer, Part, Read, Rule};
 
@@ -326,6 +326,33 @@ fn they_translate_as_a_guest_with_privilege_spvp() {
                     };
                     assert_eq!(reached.list.count, reads);
                 }
+            }
+        }
+    }
+}
+
+/// Each of the three through each pair of depths: "n levels over m levels read at most (n+1)(m+1)-1 entries, so 15, 24, 35."
+#[test]
+fn the_deepest_walk_of_each_pair_of_depths() {
+    let choices = [0, 3, 4, 5];
+    for n in choices {
+        for m in choices {
+            let [first, second] = [n, m].map(|levels| (levels > 0).then(|| deepest(levels)));
+            let mut guest = crate::walk::tests::World::new(Mode::Vu, first, second);
+            let items = guest.items();
+            assert_eq!(items.len() as u64, (n + 1) * (m + 1) - 1);
+            let hart = guest.hart.in_mode(Mode::Hs);
+            for operation in [HSV, HLV, HLVX] {
+                let access = GuestAccess {
+                    operation,
+                    address: guest.virtual_address() + DATA,
+                    width: 4,
+                };
+                let reached = reach(&hart, &mut guest.image, &access, WORD);
+                assert_eq!(reached.machine, Some(Machine(BASE + DATA)));
+                assert_eq!(reached.list.items(), items, "{n} over {m}");
+                let loaded = (operation != HSV).then_some(0x8586_8788);
+                assert_eq!(reached.value, loaded);
             }
         }
     }

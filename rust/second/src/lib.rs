@@ -1,4 +1,4 @@
-//! The independent second program: the model of document 01 with change requests 2026-01 to 2026-03 written a second time, from
+//! The independent second program: the model of document 01 with change requests 2026-01 to 2026-05 written a second time, from
 //! the papers alone, so that the two programs can be compared byte by byte.
 //!
 //! One module for each subject, in the paper's order:

@@ -95,7 +95,7 @@ impl Display for Wrong {
     }
 }
 
-/// Numbers to choose from: `2`, `0 or 8`, `0, 1 or 3`.
+/// Numbers to choose from: `2`, `0, 1 or 3`, `0, 8, 9 or a`.
 fn choice(numbers: &[u64]) -> String {
     let mut words: Vec<String> = numbers.iter().map(|number| format!("{number:x}")).collect();
     let last = words.pop().unwrap_or_default();
@@ -308,13 +308,16 @@ impl Why {
             Rule::Misaligned => {
                 return write!(text, "{address:x} is not a multiple of {:x}", self.width)
             }
-            Rule::HighBits if self.is_first_stage() => {
+            Rule::HighBits(bits) if self.is_first_stage() => {
                 return write!(
                     text,
-                    "bits 63:39 of {address:x} are not all equal to bit 38"
+                    "bits 63:{bits} of {address:x} are not all equal to bit {}",
+                    bits - 1
                 )
             }
-            Rule::HighBits => return write!(text, "bits 63:41 of {address:x} are not all 0"),
+            Rule::HighBits(bits) => {
+                return write!(text, "bits 63:{bits} of {address:x} are not all 0")
+            }
             Rule::EntryOutside => {
                 return write!(
                     text,

@@ -62,15 +62,15 @@ fn a_hart_is_refused() {
         ),
         (
             "reg 180 ffffffffffffffff;sfence.vma 0",
-            "satp (180): MODE is f; it may hold 0 or 8",
+            "satp (180): MODE is f; it may hold 0, 8, 9 or a",
         ),
         (
-            "reg 280 9000000000000000;hfence.vvma 0",
-            "vsatp (280): MODE is 9; it may hold 0 or 8",
+            "reg 280 b000000000000000;hfence.vvma 0",
+            "vsatp (280): MODE is b; it may hold 0, 8, 9 or a",
         ),
         (
             "reg 680 1000000000000000;hfence.gvma 0",
-            "hgatp (680): MODE is 1; it may hold 0 or 8",
+            "hgatp (680): MODE is 1; it may hold 0, 8, 9 or a",
         ),
         (
             "reg 34a 1;reg 305 7;wfi 0",
@@ -662,6 +662,57 @@ fn the_second_stage_faults() {
     assert_eq!(
         walked(&both, "put 80000000 100000df", "load 8 8"),
         "first stage (vsatp), level 2: the entry at 40001000 is outside the image: page 40001000 is missing"
+    );
+}
+
+/// Levels and bits are those of the register's MODE.
+#[test]
+fn the_reasons_of_each_depth() {
+    for (mode, top, first, second) in [("8", 2, 39, 41), ("9", 3, 48, 50), ("a", 4, 57, 59)] {
+        let root = format!("{mode}000000000080000");
+        let empty = "put 80000000 0";
+        let satp = format!("hart 0 1 0;reg 180 {root}");
+        let vsatp = format!("hart 1 1 0;reg 280 {root}");
+        let hgatp = format!("hart 1 1 0;reg 680 {root}");
+        for (hart, part) in [
+            (&satp, "first stage (satp)"),
+            (&vsatp, "first stage (vsatp)"),
+            (&hgatp, "second stage for the access at 8"),
+        ] {
+            assert_eq!(
+                walked(hart, empty, "load 8 8"),
+                format!("{part}, level {top}: V is 0")
+            );
+            assert_eq!(
+                walked(hart, "put 80000000 4df", "load 8 8"),
+                format!("{part}, level {top}: a large leaf whose low PPN is not 0")
+            );
+        }
+        let address = 1u64 << (first - 1);
+        for (hart, part) in [(&satp, "satp"), (&vsatp, "vsatp")] {
+            assert_eq!(
+                walked(hart, empty, &format!("load {address:x} 8")),
+                format!(
+                    "first stage ({part}): bits 63:{first} of {address:x} are not all equal to bit {}",
+                    first - 1
+                )
+            );
+        }
+        let address = 1u64 << second;
+        assert_eq!(
+            walked(&hgatp, empty, &format!("load {address:x} 8")),
+            format!(
+                "second stage for the access at {address:x}: bits 63:{second} of {address:x} are not all 0"
+            )
+        );
+    }
+    let both = format!(
+        "hart 1 1 0;reg 680 9{};reg 280 a000004000000000",
+        &ROOT[1..]
+    );
+    assert_eq!(
+        walked(&both, "put 80000000 0", "load 0 1"),
+        "second stage for the guest entry at 4000000000000: bits 63:50 of 4000000000000 are not all 0"
     );
 }
 

@@ -197,6 +197,12 @@ const MODE_WIDTH: u32 = 4;
 pub const BARE: u64 = 0;
 /// MODE Sv39 (satp, vsatp) or Sv39x4 (hgatp).
 pub const SV39: u64 = 8;
+/// MODE Sv48 (satp, vsatp) or Sv48x4 (hgatp).
+pub const SV48: u64 = 9;
+/// MODE Sv57 (satp, vsatp) or Sv57x4 (hgatp).
+pub const SV57: u64 = 10;
+/// What MODE may hold: 0 or 8, and "Document 01's stored bits and check 2 accept the new modes" (2026-05).
+const MODES: [u64; 4] = [BARE, SV39, SV48, SV57];
 
 /// Whose register it is.
 #[derive(Clone, Copy, PartialEq, Eq, Debug)]
@@ -418,9 +424,20 @@ pub fn atp_ppn(atp: u64) -> u64 {
     field(atp, 0, 44)
 }
 
-/// "MODE 0 or 8".
+/// How many levels the tables of a satp, vsatp or hgatp have: three with MODE 8, four with 9, five with 10; none where it is Bare.
+/// (A hart with another MODE is refused.)
+pub fn atp_levels(atp: u64) -> Option<u64> {
+    match atp_mode(atp) {
+        SV39 => Some(3),
+        SV48 => Some(4),
+        SV57 => Some(5),
+        _ => None,
+    }
+}
+
+/// "MODE 0 or 8", and 9 or 10.
 fn mode_is_allowed(atp: u64) -> bool {
-    atp_mode(atp) == BARE || atp_mode(atp) == SV39
+    MODES.contains(&atp_mode(atp))
 }
 
 /// What the stored register of this row holds after `value` is written to it while it held `old`.
@@ -449,7 +466,7 @@ fn mstatus_after_write(row: &Row, old: u64, value: u64) -> u64 {
     }
 }
 
-/// satp, vsatp: "MODE 0 or 8, else the whole write does nothing".
+/// satp, vsatp: "MODE 0 or 8", and 9 or 10, "else the whole write does nothing".
 fn atp_after_write(old: u64, value: u64) -> u64 {
     if mode_is_allowed(value) {
         value
@@ -458,7 +475,7 @@ fn atp_after_write(old: u64, value: u64) -> u64 {
     }
 }
 
-/// hgatp: "MODE 63:60 is 0 or 8, another MODE keeps the old one while VMID 57:44 and PPN 43:0 are written".
+/// hgatp: "MODE 63:60 is 0 or 8", and 9 or 10, "another MODE keeps the old one while VMID 57:44 and PPN 43:0 are written".
 fn hgatp_after_write(row: &Row, old: u64, value: u64) -> u64 {
     let written = masked(row, value);
     if mode_is_allowed(value) {
@@ -524,12 +541,12 @@ const MSTATUS_FIELDS: [Field; 3] = [
 const SSTATUS_FIELDS: [Field; 1] = [Field::reads_2("UXL", 32)];
 /// hstatus: "VSXL 33:32 reads 2".
 const HSTATUS_FIELDS: [Field; 1] = [Field::reads_2("VSXL", 32)];
-/// satp, vsatp and hgatp: "MODE 0 or 8".
+/// satp, vsatp and hgatp: "MODE 0 or 8", and 9 or 10.
 const ATP_FIELDS: [Field; 1] = [Field {
     name: "MODE",
     low: MODE_LOW,
     width: MODE_WIDTH,
-    allowed: &[BARE, SV39],
+    allowed: &MODES,
 }];
 
 /// The fields of a register that can't hold every value, from the lowest up.
@@ -743,7 +760,7 @@ mod tests {
         for number in [SATP, VSATP] {
             for mode in 0..16u64 {
                 let value = (mode << 60) | 0x0fff_ffff_ffff_ffff;
-                let allowed = mode == 0 || mode == 8;
+                let allowed = matches!(mode, 0 | 8 | 9 | 10);
                 assert_eq!(
                     written(number, 5, value),
                     if allowed { value } else { 5 },
@@ -755,20 +772,26 @@ mod tests {
     }
 
     #[test]
+    fn the_levels_of_each_mode() {
+        for low in [0, 0x0fff_ffff_ffff_ffff] {
+            let levels = [0u64, 8, 9, 10].map(|mode| atp_levels((mode << 60) | low));
+            assert_eq!(levels, [None, Some(3), Some(4), Some(5)]);
+        }
+    }
+
+    #[test]
     fn an_unknown_mode_in_hgatp_keeps_the_old_mode_only() {
         for mode in 0..16u64 {
-            for old_mode in [0u64, 8] {
+            let allowed = matches!(mode, 0 | 8 | 9 | 10);
+            for old_mode in [0u64, 8, 9, 10] {
                 let value = (mode << 60) | 0x0fff_ffff_ffff_ffff;
-                let kept = if mode == 0 || mode == 8 {
-                    mode
-                } else {
-                    old_mode
-                };
+                let kept = if allowed { mode } else { old_mode };
                 assert_eq!(
                     written(HGATP, old_mode << 60, value),
                     (kept << 60) | 0x03ff_ffff_ffff_fffc
                 );
             }
+            assert_eq!(storable(HGATP, mode << 60), allowed, "mode {mode}");
         }
         for bad in [0, 1, 58, 59, 60, 61, 62] {
             assert!(!storable(HGATP, 1 << bad), "bit {bad}");
@@ -814,7 +837,11 @@ mod tests {
             (HSTATUS, 0x3_0000_0000, "VSXL 3"),
             (HSTATUS, 0x8000_0002_0000_0000, "bit 63"),
             (HSTATUS, 0x8000_0000_0000_0001, "bit 0"),
-            (SATP, 0x9000_0000_0000_0001, "MODE 9"),
+            (SATP, 0xb000_0000_0000_0001, "MODE b"),
+            (SATP, 0x9000_0000_0000_0001, "nothing"),
+            (VSATP, 0xafff_ffff_ffff_ffff, "nothing"),
+            (HGATP, 0xa3ff_ffff_ffff_fffc, "nothing"),
+            (HGATP, 0x9000_0000_0000_0002, "bit 1"),
             (VSATP, u64::MAX, "MODE f"),
             (HGATP, 0x1000_0000_0000_0000, "MODE 1"),
             (HGATP, 0x1800_0000_0000_0000, "bit 59"),

@@ -1,4 +1,6 @@
-//! "The walk": translation of a fetch, a load or a store through the first stage (Sv39) and the second stage (Sv39x4).
+//! "The walk": translation of a fetch, a load or a store through the first stage (Sv39, Sv48 or Sv57) and the second stage (Sv39x4,
+//! Sv48x4 or Sv57x4). "Show the walk once over the number of levels" (2026-05): the MODE of a stage says how many levels its tables
+//! have, 3, 4 or 5, and everything else follows from that.
 //!
 //! A translation never changes the hart. It answers an address, a refusal number or a fault, and the list of the entries that
 //! it read. Beside that it says why: which rule ended it ([`Why`]), or what made it refused.
@@ -7,7 +9,7 @@ use crate::address::{GuestPhysical, Machine};
 use crate::bits::{bit, field, low_ones};
 use crate::hart::{Hart, Mode};
 use crate::image::Image;
-use crate::registers::{atp_mode, atp_ppn, mpp, BARE, MPRV, MPV, MXR, SUM};
+use crate::registers::{atp_levels, atp_ppn, mpp, MPRV, MPV, MXR, SUM};
 use crate::trap::{Refusal, Trap};
 
 /// Fetch, load or store.
@@ -101,7 +103,7 @@ pub enum BadAccess {
 pub struct Read {
     /// 1 first, 2 second.
     pub stage: u64,
-    /// The level: 2, 1 or 0.
+    /// The level: 4 to 0.
     pub level: u64,
     /// The entry's machine address.
     pub address: u64,
@@ -109,16 +111,26 @@ pub struct Read {
     pub value: u64,
 }
 
-/// The places of the list.
-pub const PLACES: usize = 15;
+/// The places of the list: "the list of reads grows to thirty-five places" (2026-05).
+pub const PLACES: usize = 35;
 
-/// "The list of reads holds fifteen places [...] and their count; unused places are zero."
-#[derive(Clone, Copy, PartialEq, Eq, Debug, Default)]
+/// "The list of reads holds fifteen places", now thirty-five, "[...] and their count; unused places are zero."
+#[derive(Clone, Copy, PartialEq, Eq, Debug)]
 pub struct List {
-    /// The fifteen places.
+    /// The thirty-five places.
     pub places: [Read; PLACES],
     /// How many of them are used.
     pub count: usize,
+}
+
+impl Default for List {
+    /// The empty list.
+    fn default() -> List {
+        List {
+            places: [Read::default(); PLACES],
+            count: 0,
+        }
+    }
 }
 
 impl List {
@@ -127,7 +139,8 @@ impl List {
         self.places.get(..self.count).unwrap_or(&[])
     }
 
-    /// Lists one more read. A walk makes at most fifteen: three for each of three guest entries, those three, and three more.
+    /// Lists one more read. "n levels over m levels read at most (n+1)(m+1)-1 entries, so 15, 24, 35" (2026-05): m for each of n
+    /// guest entries, those n, and m more.
     fn push(&mut self, read: Read) {
         if let Some(place) = self.places.get_mut(self.count) {
             *place = read;
@@ -152,8 +165,9 @@ pub enum Answer {
 pub enum Rule {
     /// "Misaligned load or store: 4 or 6, before all else."
     Misaligned,
-    /// Sv39: bits 63:39 are not equal to bit 38. Sv39x4: bits 63:41 are not zero.
-    HighBits,
+    /// The bits of the address from this one up, at the first stage 39, 48 or 57: they are not equal to the bit below. At the second
+    /// stage 41, 50 or 59: they are not zero.
+    HighBits(u32),
     /// "An entry outside the image".
     EntryOutside,
     /// "V=0".
@@ -332,26 +346,50 @@ pub fn effective_mode(hart: &Hart, mode: Mode, kind: Kind) -> Mode {
     }
 }
 
-/// "Sv39: bits 63:39 equal bit 38".
-pub fn sv39_well_formed(address: u64) -> bool {
-    let high = field(address, 38, 26);
-    high == 0 || high == low_ones(26)
+/// "Sv39: bits 63:39 equal bit 38"; "Address checks become 48 or 57 bits first stage" (2026-05): how many bits tables of so many
+/// levels translate at the first stage.
+pub fn first_stage_bits(levels: u64) -> u32 {
+    match levels {
+        3 => 39,
+        4 => 48,
+        _ => 57,
+    }
 }
 
-/// "Sv39x4: bits 63:41 zero".
-pub fn sv39x4_well_formed(address: GuestPhysical) -> bool {
-    field(address.0, 41, 23) == 0
+/// "Sv39x4: bits 63:41 zero"; "50 or 59 second" (2026-05): the same at the second stage.
+pub fn second_stage_bits(levels: u64) -> u32 {
+    match levels {
+        3 => 41,
+        4 => 50,
+        _ => 59,
+    }
 }
 
-/// "It starts at its top level, 2 here".
-const TOP_LEVEL: u64 = 2;
+/// The first stage's test of an address: those above its low `bits` bits equal the highest of these.
+pub fn first_stage_takes(address: u64, bits: u32) -> bool {
+    let copies = 65 - bits;
+    let high = field(address, bits - 1, copies);
+    high == 0 || high == low_ones(copies)
+}
+
+/// The second stage's test of an address: those above its low `bits` bits are zero.
+pub fn second_stage_takes(address: GuestPhysical, bits: u32) -> bool {
+    field(address.0, bits, 64 - bits) == 0
+}
+
+/// "It starts at its top level, 2 here", with three levels; 3 with four, 4 with five.
+fn top_level(levels: u64) -> u64 {
+    levels - 1
+}
 
 /// "12 + 9 times the level": the low bits of an address that a leaf of this level leaves as they are.
 fn offset_bits(level: u64) -> u32 {
     match level {
         0 => 12,
         1 => 21,
-        _ => 30,
+        2 => 30,
+        3 => 39,
+        _ => 48,
     }
 }
 
@@ -360,9 +398,9 @@ fn first_stage_index(address: u64, level: u64) -> u64 {
     field(address, offset_bits(level), 9)
 }
 
-/// The same, "eleven at the second stage's root".
-fn second_stage_index(address: GuestPhysical, level: u64) -> u64 {
-    let width = if level == TOP_LEVEL { 11 } else { 9 };
+/// The same, "eleven at the second stage's root", which is the table of the top level.
+fn second_stage_index(address: GuestPhysical, level: u64, levels: u64) -> u64 {
+    let width = if level == top_level(levels) { 11 } else { 9 };
     field(address.0, offset_bits(level), width)
 }
 
@@ -681,14 +719,15 @@ impl Walk<'_> {
     /// physical address with V=1; the caller names it.
     fn first_stage(&mut self, atp: u64) -> Result<u64, Fault> {
         let address = self.access.address;
-        if atp_mode(atp) == BARE {
+        let Some(levels) = atp_levels(atp) else {
             return Ok(address);
-        }
-        if !sv39_well_formed(address) {
-            let why = self.why_of_stage(Rule::HighBits, Stage::First, address);
+        };
+        let bits = first_stage_bits(levels);
+        if !first_stage_takes(address, bits) {
+            let why = self.why_of_stage(Rule::HighBits(bits), Stage::First, address);
             return Err(self.page_fault(why));
         }
-        let mut level = TOP_LEVEL;
+        let mut level = top_level(levels);
         let mut table = root_table(atp);
         loop {
             let place = table + 8 * first_stage_index(address, level);
@@ -782,17 +821,18 @@ impl Walk<'_> {
     fn second_stage(&mut self, guest: GuestPhysical, purpose: Purpose) -> Result<Machine, Fault> {
         let hgatp = self.hart.hgatp;
         let stage = Stage::Second(guest, purpose);
-        if atp_mode(hgatp) == BARE {
+        let Some(levels) = atp_levels(hgatp) else {
             return Ok(Machine(guest.0));
-        }
-        if !sv39x4_well_formed(guest) {
-            let why = self.why_of_stage(Rule::HighBits, stage, guest.0);
+        };
+        let bits = second_stage_bits(levels);
+        if !second_stage_takes(guest, bits) {
+            let why = self.why_of_stage(Rule::HighBits(bits), stage, guest.0);
             return Err(self.guest_page_fault(guest, purpose, why));
         }
-        let mut level = TOP_LEVEL;
+        let mut level = top_level(levels);
         let mut table = root_table(hgatp);
         loop {
-            let place = Machine(table + 8 * second_stage_index(guest, level));
+            let place = Machine(table + 8 * second_stage_index(guest, level, levels));
             let entry = self.read_entry(stage, level, place)?;
             match self.second_stage_entry(entry, level, purpose) {
                 Ok(Entry::Pointer {

@@ -289,6 +289,81 @@ fn an_interrupt_changes_nothing_that_decides_it() {
     }
 }
 
+/// How many levels the tables of a vsatp or hgatp have: "Bare and mixed depths count n or m as 0 or their own depth."
+fn depth(atp: u64) -> u64 {
+    match atp >> 60 {
+        0 => 0,
+        mode => mode - 5,
+    }
+}
+
+/// One page at 0 that is every table of both stages: guest physical page 1 is this page, by the entries 0 and 1. The others are the
+/// guest's: mostly pointers to that page, some leaves.
+fn page_of_tables(random: &mut Random) -> Image {
+    let mut image = Image {
+        base: 0,
+        bytes: vec![0; 4096],
+    };
+    for place in 0..512 {
+        let entry = match (place, random.below(20)) {
+            (0, _) => 0x1,
+            (1, _) => 0xdf,
+            (_, 0) => random.number(),
+            (_, 1..=4) => 0x4df,
+            _ => 0x401,
+        };
+        assert!(image.put(Machine(8 * place), entry));
+    }
+    image
+}
+
+/// "n levels over m levels read at most (n+1)(m+1)-1 entries, so 15, 24, 35." The list is that of walks from the top level down, the
+/// second stage's before each entry of the first.
+#[test]
+fn lists_of_any_depths() {
+    let mut random = Random(0x0002_0260_5000);
+    let mut longest = 0;
+    for _ in 0..20_000 {
+        let image = page_of_tables(&mut random);
+        let mut hart = Hart::new(1, 0, 0);
+        let [n, m] = [0, 0].map(|bare: u64| [bare, 8, 9, 10][random.below(4) as usize]);
+        hart.vsatp = (n << 60) | u64::from(m != 0);
+        hart.hgatp = m << 60;
+        let bits = 12 + 9 * depth(hart.vsatp) as u32;
+        let address = match n {
+            0 => 0x1000 + random.below(512) * 8,
+            // Well formed.
+            _ => (((random.bits() << (64 - bits)) as i64) >> (64 - bits)) as u64 & !7,
+        };
+        let access = Access {
+            kind: [Kind::Load, Kind::Store][random.below(2) as usize],
+            address,
+            width: 8,
+        };
+        let translation = translate(&hart, &image, &access);
+        let (n, m) = (depth(hart.vsatp), depth(hart.hgatp));
+        let items = translation.list.items();
+        let most = (n + 1) * (m + 1) - 1;
+        assert!(items.len() as u64 <= most);
+        longest = longest.max(items.len());
+        let (mut first, mut second) = (n, m);
+        for read in items {
+            assert_eq!(image.read(Machine(read.address)), Some(read.value));
+            let (level, top) = match read.stage {
+                1 => (&mut first, n),
+                _ => (&mut second, m),
+            };
+            assert!(*level > 0 && *level <= top, "{items:x?}");
+            *level -= 1;
+            assert_eq!(read.level, *level, "{items:x?}");
+            if read.stage == 1 {
+                second = m;
+            }
+        }
+    }
+    assert_eq!(longest, 35);
+}
+
 /// An image, taken or not, with some numbers in it.
 fn any_image(random: &mut Random) -> Image {
     let base = match random.below(3) {

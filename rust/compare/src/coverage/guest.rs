@@ -18,7 +18,7 @@ use second::trap::{Ending, Target, Trap};
 use second::walk::{self, Key, List, Part, Read, Rule};
 
 use super::words::GUEST_EVENTS;
-use super::{add, count, ends, event_word, of_entry, reachable_rules, Before};
+use super::{add, count, ends, event_word, of_entry, reachable_rules, table_of_kinds, Before};
 use crate::tables::{R, U, W, X};
 
 /// A form: the event, the width, and whether it is sign-extended.
@@ -201,7 +201,7 @@ const BOTH: [bool; 2] = [false, true];
 pub fn hlvx_rules() -> Vec<Key> {
     let mut rules = Vec::new();
     for part in [Part::Vsatp, Part::HgatpForAccess] {
-        let levels = (0..3).map(|level| (Rule::NotExecutableForHlvx, part, Some(level)));
+        let levels = (0..5).map(|level| (Rule::NotExecutableForHlvx, part, Some(level)));
         rules.extend(levels);
     }
     rules
@@ -273,7 +273,7 @@ fn done_cases(form: Form) -> Vec<Case> {
 }
 
 fn level_cases(event: &'static str) -> Vec<Case> {
-    let levels = [None, Some(0), Some(1), Some(2)];
+    let levels = [None, Some(0), Some(1), Some(2), Some(3), Some(4)];
     let pairs = levels
         .into_iter()
         .flat_map(|first| levels.map(|second| (first, second)));
@@ -823,28 +823,12 @@ impl Guest {
 
     /// The counts, for people.
     pub fn table(&self, text: &mut String) {
-        let mut kinds: Vec<(&str, [usize; 2])> = Vec::new();
-        for case in all() {
-            let kind = kind(&case);
-            if !kinds.iter().any(|(known, _)| *known == kind) {
-                kinds.push((kind, [0, 0]));
-            }
-            for (known, [reached, there_are]) in &mut kinds {
-                if *known == kind {
-                    *reached += usize::from(self.has(&case));
-                    *there_are += 1;
-                }
-            }
-        }
-        text.push_str("hypervisor loads and stores: ");
-        for (kind, [reached, there_are]) in kinds {
-            let _ = write!(text, "{kind}: {reached} of {there_are}; ");
-        }
+        let kinds = table_of_kinds(all().iter().map(|case| (kind(case), self.has(case))));
         let bits = self.stored_bits.values().flatten();
         let bits = bits.map(|bits| bits.count_ones()).sum::<u32>();
         let _ = writeln!(
             text,
-            "bits of VALUE stored and read back: {bits} of {}",
+            "hypervisor loads and stores: {kinds}; bits of VALUE stored and read back: {bits} of {}",
             4 * 128
         );
     }
@@ -986,7 +970,8 @@ mod tests {
             14 * 5 * 2 * 4
         );
         assert_eq!(count(|case| matches!(case, Case::Loaded { .. })), 10 * 4);
-        assert_eq!(count(|case| matches!(case, Case::Fault { .. })), 327);
+        assert_eq!(count(|case| matches!(case, Case::Fault { .. })), 550);
+        assert_eq!(count(|case| matches!(case, Case::Levels { .. })), 3 * 36);
         assert_eq!(
             count(|case| matches!(case, Case::Delivered(_))),
             3 * 5 * 5 * 2

@@ -1,10 +1,12 @@
-//! Images of odd length and base, accesses at the image's edge and around 2^56 and 2^64, large images, images from files.
+//! Images of odd length and base, accesses at the image's edge, around 2^56 and 2^64 and at the edges of the address spaces of each
+//! MODE, large images, images from files.
 
 use second::hart::{Hart, Mode};
-use second::registers::HU;
+use second::registers::{HGATP, HU};
 
 use crate::program::FILES;
 use crate::scribe::Scribe;
+use crate::tables::{atp, first_bits, second_bits, DEPTHS};
 
 /// Accesses around the edges of an image.
 pub fn edges(scribe: &mut Scribe) {
@@ -35,6 +37,39 @@ pub fn edges(scribe: &mut Scribe) {
         ]);
         let near = edge.wrapping_add(scribe.rng.below(20)).wrapping_sub(12);
         access(scribe, near);
+    }
+}
+
+/// Accesses around the edges of the address spaces of each MODE. The root of every stage is the image.
+pub fn address_spaces(scribe: &mut Scribe) {
+    scribe.line("image 80000000 4000");
+    for _ in 0..4 {
+        let entry = scribe.rng.pick(&[0, 0x2000_0001, 0x2000_00df, 0xdf]);
+        let place = scribe.rng.pick(&[0, 0x7f8, 0x800, 0xff8, 0x3ff8]);
+        scribe.put(0x8000_0000 + place, entry);
+    }
+    let mode = scribe.mode();
+    let mut hart = Hart::new(0, 0, 0).in_mode(mode);
+    hart.hstatus |= 1 << HU;
+    for _ in 0..6 {
+        let [satp, vsatp, hgatp] = [0, 0, 0].map(|bare| {
+            let levels = scribe.rng.pick(&DEPTHS);
+            scribe.rng.pick(&[bare, atp(levels, 0x8000_0000)])
+        });
+        (hart.satp, hart.vsatp, hart.hgatp) = (satp, vsatp, hgatp);
+        scribe.whole_hart(&hart);
+        for _ in 0..2 {
+            let levels = scribe.rng.pick(&DEPTHS);
+            let half = 1u64 << (first_bits(levels) - 1);
+            let edge = scribe
+                .rng
+                .pick(&[half, half.wrapping_neg(), 1 << second_bits(levels)]);
+            let near = edge.wrapping_add(scribe.rng.below(20)).wrapping_sub(12);
+            access(scribe, near);
+            if scribe.session.hart.checked_mode() != Some(mode) {
+                scribe.whole_hart(&hart);
+            }
+        }
     }
 }
 
@@ -131,11 +166,12 @@ pub fn files(scribe: &mut Scribe) {
     scribe.line(&format!("file {base:x} {name}"));
     let mode = scribe.rng.pick(&[Mode::Vs, Mode::Vu, Mode::M]);
     scribe.hart(mode, 0);
-    scribe.reg(second::registers::HGATP, 0x8000_0000_0008_0000);
+    let levels = scribe.rng.pick(&DEPTHS);
+    scribe.reg(HGATP, atp(levels, 0x8000_0000));
     for _ in 0..8 {
         let address = match scribe.rng.below(3) {
             0 => base + scribe.rng.below(0x5000),
-            _ => scribe.rng.bits() & 0x1ff_ffff_fff8,
+            _ => scribe.rng.bits() & ((1 << second_bits(levels)) - 8),
         };
         access(scribe, address);
     }

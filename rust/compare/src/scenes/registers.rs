@@ -83,7 +83,7 @@ pub fn write_rules(scribe: &mut Scribe) {
             hart.hstatus |= scribe.rng.bits() & (1 << VTVM);
         }
         for number in [registers::SATP, registers::VSATP, registers::HGATP] {
-            let old_mode = scribe.rng.pick(&[0u64, 8]) << 60;
+            let old_mode = scribe.rng.pick(&[0u64, 8, 9, 10]) << 60;
             let old = old_mode | (scribe.rng.bits() & 0x0003_ffff_ffff_fffc);
             if let Some(place) = hart.stored_mut(number) {
                 *place = old;

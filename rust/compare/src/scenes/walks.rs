@@ -2,7 +2,7 @@
 //! the rules name.
 
 use second::address::Machine;
-use second::bits::{bit, with_bit};
+use second::bits::{bit, with_bit, with_field};
 use second::hart::{Hart, Mode};
 use second::hypervisor::{GuestAccess, Operation};
 use second::registers::{self, find, with_mpp, HU, MPRV, MPV, MXR, SPVP, SUM};
@@ -385,7 +385,7 @@ fn damaged_access(scribe: &mut Scribe, tables: &Tables, access: &Access, way: Wa
     }
 }
 
-/// With another root in satp, vsatp or hgatp.
+/// With another root or another MODE in satp, vsatp or hgatp.
 fn with_other_register(scribe: &mut Scribe, tables: &Tables, access: &Access, way: Way) {
     let (number, old) = scribe.rng.pick(&[
         (registers::SATP, scribe.session.hart.satp),
@@ -396,7 +396,12 @@ fn with_other_register(scribe: &mut Scribe, tables: &Tables, access: &Access, wa
         0 => 1 << (41 + scribe.rng.below(15)),
         _ => tables.outside_page(scribe),
     };
-    let other = (old & !0xfff_ffff_ffff) | (root >> 12);
+    let other = if scribe.rng.chance(30) {
+        // The same root with another MODE.
+        with_field(old, 60, 4, scribe.rng.pick(&[0, 8, 9, 10]))
+    } else {
+        with_field(old, 0, 44, root >> 12)
+    };
     let other = match find(number) {
         Some(row) => registers::after_write(row, old, other),
         None => old,
