@@ -62,7 +62,7 @@ fn conclude(base: u64, len: u64, a: Access, m: Machine) -> Reached
 }
 
 // The walk of an access; its reads go into out, from an index on.
-fn walk_into(base: u64, bytes: &[u8], a: Access, from: usize, out: &mut [u64]) -> Progress
+pub fn walk_into(base: u64, bytes: &[u8], a: Access, from: usize, out: &mut [u64]) -> Progress
     requires { ⌜ (base + length (now bytes) ≤ 2 ^ 56) × Tables a × (from + 4 * reach a (a .first .levels) ≤ length (now out)) ⌝ }
     ensures { λ r. ⌜ onto (now (out .exit)) (r .next) (result (r .reached)) ≡ into (look base (now (bytes .entry))) (walkOf base (length (now (bytes .entry))) a) (now (out .entry)) from ⌝ }
 {

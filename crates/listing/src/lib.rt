@@ -70,7 +70,7 @@ fn put_answer(x: Answer, count: u64, out: &mut [u64])
     }
 }
 
-// The translation of an access into a slice of the right length: the list where it stands, then the answer before it.
+// The translation of an access into a slice of the right length: the list where it stands, the answer before it, then zeros behind.
 fn translate_into(
     h: Hart,
     base: u64,
@@ -86,14 +86,16 @@ fn translate_into(
     let s = translate::starts(h, base, bytes.len() as u64, kind, address, width);
     match s {
         Start::Answered(x) => {
-            engine::clear(LIST_AT, TRANSLATION, &mut *out);
             put_answer(x, 0, &mut *out);
+            engine::clear(LIST_AT, TRANSLATION, &mut *out);
         }
         Start::Walks(a) => {
-            let w = engine::list(base, bytes, a, PLACES, LIST_AT, &mut *out);
-            let count = w.count;
+            let w = engine::walk_into(base, bytes, a, LIST_AT, &mut *out);
+            let next = w.next;
             let reached = w.reached;
+            let count = (next - LIST_AT) / 4;
             put_answer(translate::answered(reached), count as u64, &mut *out);
+            engine::clear(next, TRANSLATION, &mut *out);
         }
     }
 }

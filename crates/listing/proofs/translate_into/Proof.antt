@@ -1,50 +1,98 @@
-use mathlib.Core.Path.{refl, sym, ap, _∙_}
-use mathlib.Core.List.{List, _∷_, _++_}
-use Prim.Native.Nat.{ℕ, _≤_}
+use mathlib.Core.Path.{_≡_, sym, ap, _∙_}
+use mathlib.Core.List.{[]}
+use Prim.Native.Nat.{_+_, _-_, _*_, _/_, _≤_, zero-le}
 use native.Mathlib.Omega.{arith}
 use lib.ListN.{length}
+use lib.Seq.{length-sets}
 use denote.Ref.{now}
 use borrow.Author.Needs.{needs}
-use Rattle.stages.specs.Tree.{run}
-use Rattle.stages.specs.Stages.{look, walkOf}
-use Rattle.stages.specs.Listed.{places, unused, padded}
-use Rattle.stages.proofs.Words.{length-padded}
+use Rattle.access.specs.declared.Access.{Access}
+use Rattle.access.specs.declared.Machine.{Machine}
+use Rattle.stages.specs.Tree.{Ran, run}
+use Rattle.stages.specs.Stages.{Result, look, walkOf}
+use Rattle.stages.specs.Listed.{places}
+use Rattle.second_stage.specs.Words.{Into, result, onto}
+use Rattle.second_stage.proofs.Runs.{written, into-run}
 use Rattle.engine.proofs.Places.{enough, few}
 use Rattle.translate.specs.Translated.{answer}
-use Rattle.translate.proofs.Accesses.{at-once, walking}
-use Rattle.listing.specs.Listing.{answerWords, translationWords}
-use Rattle.listing.proofs.Words.{behind}
+use Rattle.translate.proofs.Accesses.{Walking, at-once, walking}
+use Rattle.listing.specs.Listing.{list-at, translation-size, translationWords}
+use Rattle.listing.proofs.Words.{closed, answer-length}
 use Rattle.listing.proofs.translate_into.Statement.{statement}
 use Rattle.listing.proofs.translate_into.Tie as tie
 
-list-requires : tie.Need-list-requires
-list-requires c κs =
-    let a = c .before .before .before .before .before .before .before .args in
-    let w = walking (a .h) (a .base) (now (a .bytes)) (a .kind) (a .address) (a .width) _ (sym (c .before .before .before .before .starts .ensures) ∙ c .before .before .s2 .given .1) in
-    (w .ends, w .tables, enough (c .before .before .s2 .given .0 .0) (w .tables), omega arith)
+-- ---- an answer without a walk
+
+clear-requires : tie.Need-clear-requires
+clear-requires c κs =
+    let a = c .before .before .before .before .before .before .before .before .before .before .before .args in
+    (omega arith, omega (arith, ap length (c .before .before .before .put-answer .ensures) ∙ answer-length (c .before .before .before .before .before .before .s .given .0 .0) 0 (now (a .out)) (omega arith)))
 
 returns : tie.Need-returns
 unfolding translationWords
 returns c =
     let a = c .before .before .before .before .before .before .before .before .before .before .before .before .before .before .args in
-    rw (at-once (a .h) (a .base) (now (a .bytes)) (a .kind) (a .address) (a .width) _ (sym (c .before .before .before .before .before .before .before .before .before .before .before .starts .ensures) ∙ c .before .before .before .before .before .before .before .before .before .s .given .1), c .before .before .put-answer .ensures, c .before .before .before .before .before .before .clear .ensures)
-    (ap (λ (ws : List ℕ). answerWords (c .before .before .before .before .before .before .before .before .before .s .given .0 .0) ++ (0 ∷ ws)) (behind (now (a .out)) (unused places) (c .before .before .before .before .before .before .before .before .before .before .before .before .before .before .pre) refl))
+    let x = c .before .before .before .before .before .before .before .before .before .s .given .0 .0 in
+    rw (at-once (a .h) (a .base) (now (a .bytes)) (a .kind) (a .address) (a .width) x (sym (c .before .before .before .before .before .before .before .before .before .before .before .starts .ensures) ∙ c .before .before .before .before .before .before .before .before .before .s .given .1), c .before .before .clear .ensures, c .before .before .before .before .before .before .put-answer .ensures)
+    (closed x (now (a .out)) [] (c .before .before .before .before .before .before .before .before .before .before .before .before .before .before .pre) zero-le)
+
+-- ---- a walk
+
+abbrev walked-for : tie.After-walk-into-arg → Access
+walked-for c = c .before .before .s2 .given .0 .0
+
+starts-walk : (c : tie.After-walk-into-arg) → let a = c .before .before .before .before .before .before .before .args in Walking (a .h) (a .base) (now (a .bytes)) (a .kind) (a .address) (a .width) (walked-for c)
+starts-walk c =
+    let a = c .before .before .before .before .before .before .before .args in
+    walking (a .h) (a .base) (now (a .bytes)) (a .kind) (a .address) (a .width) _ (sym (c .before .before .before .before .starts .ensures) ∙ c .before .before .s2 .given .1)
+
+walk-into-requires : tie.Need-walk-into-requires
+walk-into-requires c κs = let w = starts-walk c in (w .ends, w .tables, omega (arith, enough (walked-for c) (w .tables)))
+
+abbrev ran : tie.After-walk-into → Ran (Result Machine)
+ran w = let a = w .before .before .before .before .before .before .before .before .args in run (look (a .base) (now (a .bytes))) (walkOf (a .base) (length (now (a .bytes))) (walked-for (w .before)))
+
+-- what the walk left
+left : (w : tie.After-walk-into) → let a = w .before .before .before .before .before .before .before .before .args in
+    onto (w .walk-into .last .1 .1 .1 .1 .0) (w .walk-into .result .next) (result (w .walk-into .result .reached)) ≡ written (ran w) (now (a .out)) list-at
+left w =
+    let a = w .before .before .before .before .before .before .before .before .args in
+    w .walk-into .ensures ∙ into-run (look (a .base) (now (a .bytes))) (walkOf (a .base) (length (now (a .bytes))) (walked-for (w .before))) (now (a .out)) list-at
+
+next : (w : tie.After-walk-into) → w .walk-into .result .next ≡ list-at + 4 * length (ran w .reads)
+next w = ap (λ (i : Into (Result Machine)). i .next) (left w)
+
+room : (w : tie.After-walk-into) → length (ran w .reads) ≤ places
+room w = let a = w .before .before .before .before .before .before .before .before .args in few (walked-for (w .before)) (a .base) (length (now (a .bytes))) (look (a .base) (now (a .bytes))) (starts-walk (w .before) .tables)
+
+size : (w : tie.After-walk-into) → length (w .walk-into .last .1 .1 .1 .1 .0) ≡ translation-size
+size w = ap length (ap (λ (i : Into (Result Machine)). i .words) (left w)) ∙ simp length-sets (w .before .before .before .before .before .before .before .before .pre)
+
+clear-requires-2 : tie.Need-clear-requires-2
+clear-requires-2 c κs =
+    let w = c .before .before .before .before .before .before .before .before in
+    (omega (arith, next w, room w), omega (arith, ap length (c .before .before .before .put-answer2 .ensures) ∙ answer-length (c .before .before .before .before .before .answered .result) ((w .walk-into .result .next - list-at) / 4) (w .walk-into .last .1 .1 .1 .1 .0) (omega (arith, size w)), size w))
 
 returns-2 : tie.Need-returns-2
 unfolding translationWords
 returns-2 c =
-    let a = c .before .before .before .before .before .before .before .before .before .before .before .before .before .before .before .args in
-    let x = c .before .before .before .before .before .before .before .before .before .before .s2 .given .0 .0 in
-    let w = walking (a .h) (a .base) (now (a .bytes)) (a .kind) (a .address) (a .width) x (sym (c .before .before .before .before .before .before .before .before .before .before .before .before .starts .ensures) ∙ c .before .before .before .before .before .before .before .before .before .before .s2 .given .1) in
-    let r = c .before .before .before .before .before .before .before .list .ensures in
-    let R = run (look (a .base) (now (a .bytes))) (walkOf (a .base) (length (now (a .bytes))) x) in
-    let room = few x (a .base) (length (now (a .bytes))) (look (a .base) (now (a .bytes))) (w .tables) in
-    rw (w .translates, c .before .before .put-answer2 .ensures, c .before .before .before .before .answered .ensures, r .end, r .count, r .words)
-    (ap (λ (ws : List ℕ). answerWords (answer (R .end)) ++ (length (R .reads) ∷ ws)) (behind (now (a .out)) (padded places (R .reads)) (c .before .before .before .before .before .before .before .before .before .before .before .before .before .before .before .pre) (length-padded places (R .reads) room)))
+    let w = c .before .before .before .before .before .before .before .before .before .before .before in
+    let count : (list-at + 4 * length (ran w .reads) - list-at) / 4 ≡ length (ran w .reads) = omega arith in
+    rw (
+      starts-walk (w .before) .translates,
+      c .before .before .clear2 .ensures,
+      c .before .before .before .before .before .before .put-answer2 .ensures,
+      c .before .before .before .before .before .before .before .before .answered .ensures,
+      ap (λ (i : Into (Result Machine)). i .end) (left w),
+      ap (λ (i : Into (Result Machine)). i .words) (left w),
+      next w,
+      count,
+    )
+    (closed (answer (ran w .end)) (now (w .before .before .before .before .before .before .before .before .args .out)) (ran w .reads) (w .before .before .before .before .before .before .before .before .pre) (room w))
 
 pub translate-into-spec : {M : Type 1} → statement M
 translate-into-spec =
     tie.close
     (tie.spec
-    (λ c κs. search needs) (λ c. search needs) (λ c κs. search needs) (λ c κs. search needs) (λ c. search needs) list-requires
-    (λ c κs. search needs) (λ c κs. search needs) (λ c. search needs) returns (λ c. search needs) returns-2)
+    (λ c κs. search needs) (λ c. search needs) (λ c κs. search needs) clear-requires (λ c. search needs) walk-into-requires (λ c. omega (arith, next (c .before .before)))
+    (λ c κs. search needs) (λ c κs. size (c .before .before .before .before)) clear-requires-2 (λ c. search needs) returns (λ c. search needs) returns-2)
