@@ -808,6 +808,24 @@ mod tests {
     use second::script::parse;
     use std::path::PathBuf;
 
+    /// What a count comes to by the lines of a script, with its answers changed.
+    pub fn notes<T: Default>(
+        script: &str,
+        change: fn(&mut Answer),
+        note: fn(&mut T, &Line, &Before, &Answer),
+    ) -> T {
+        let mut counted = T::default();
+        let mut session = Session::new(PathBuf::new());
+        for line in script.split(';') {
+            let line = parse(line.as_bytes()).unwrap().unwrap();
+            let before = Before::of(&session, &line);
+            let mut answer = session.perform(&line).unwrap();
+            change(&mut answer);
+            note(&mut counted, &line, &before, &answer);
+        }
+        counted
+    }
+
     #[test]
     fn outputs_are_counted() {
         let mut coverage = Coverage::default();
@@ -932,17 +950,10 @@ mod tests {
     /// A guest-page fault on the way to a guest entry counts as delivered by the trap request behind it alone.
     #[test]
     fn the_fault_of_a_guest_entry_is_counted_by_its_cause_and_target() {
-        let mut coverage = Coverage::default();
-        let mut session = Session::new(PathBuf::new());
         let scene = "hart 1 1 0;reg 280 8000000020000000;reg 680 8000000000000000;reg 302 800000";
         let fault = "trap 17 0 8000000000 3000 1";
         let script = format!("{scene};store 0 8;{fault};hart 1 1 0;{fault}");
-        for line in script.split(';') {
-            let line = parse(line.as_bytes()).unwrap().unwrap();
-            let before = Before::of(&session, &line);
-            let answer = session.perform(&line).unwrap();
-            coverage.note(&line, &before, &answer);
-        }
+        let coverage = notes(&script, |_| {}, Coverage::note);
         let key = (Rule::HighBits(41), Part::HgatpForEntry, None);
         assert_eq!(coverage.rules, BTreeMap::from([(("store", key), 1)]));
         let delivered = BTreeMap::from([((23, Target::Hs), 1)]);

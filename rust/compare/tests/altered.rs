@@ -2,10 +2,12 @@
 //! shows it shrunk to a few lines. Among them are the slips that document 01 names.
 
 use std::io;
+use std::path::Path;
 
 use compare::comparing::{compare, Difference, Failure, Options, FULL_RUN};
 use compare::coverage::depths;
 use compare::coverage::guest::Case;
+use compare::coverage::Coverage;
 use compare::coverage::{ending_rules, event_word, Ended, Meeting};
 use compare::generate::{depths_script, guest_script, words_script};
 use compare::program::{model, Folder, InProcess, Outcome, Perform, Program, Script, Status};
@@ -61,6 +63,24 @@ fn compare_in(
         Ok(_) => None,
         Err(Failure::Different(difference)) => Some(*difference),
         Err(Failure::NotRun(name, error)) => panic!("{name}: {error}"),
+    }
+}
+
+/// Checks that one script, made of a seed, shows each slip.
+fn shown_by(make: fn(u64, &Path) -> (Script, Coverage), slips: &[(&str, Perform)]) {
+    let folder = Folder::new().unwrap();
+    let (script, _) = make(42, folder.path());
+    let run = |perform| {
+        let program = InProcess {
+            name: "",
+            perform,
+            folder: &folder,
+        };
+        program.run(&script).unwrap()
+    };
+    let expected = run(model);
+    for (slip, perform) in slips {
+        assert_ne!(run(*perform), expected, "{slip}");
     }
 }
 
@@ -1187,20 +1207,7 @@ const OTHER_SLIPS: [(&str, Perform); 3] = [
 /// The script with everything about words is part of every run: it alone shows each slip in what is done with them.
 #[test]
 fn copies_with_a_slip_in_words() {
-    let folder = Folder::new().unwrap();
-    let (script, _) = words_script(42, folder.path());
-    let run = |perform| {
-        let program = InProcess {
-            name: "",
-            perform,
-            folder: &folder,
-        };
-        program.run(&script).unwrap()
-    };
-    let expected = run(model);
-    for (slip, perform) in WORD_SLIPS {
-        assert_ne!(run(perform), expected, "{slip}");
-    }
+    shown_by(words_script, &WORD_SLIPS);
 }
 
 #[test]
@@ -1771,20 +1778,7 @@ const GUEST_SLIPS: [(&str, Perform); 52] = [
 /// The script with everything about hypervisor loads and stores is part of every run: it alone shows each slip in them.
 #[test]
 fn copies_with_a_slip_in_hypervisor_loads_and_stores() {
-    let folder = Folder::new().unwrap();
-    let (script, _) = guest_script(42, folder.path());
-    let run = |perform| {
-        let program = InProcess {
-            name: "",
-            perform,
-            folder: &folder,
-        };
-        program.run(&script).unwrap()
-    };
-    let expected = run(model);
-    for (slip, perform) in GUEST_SLIPS {
-        assert_ne!(run(perform), expected, "{slip}");
-    }
+    shown_by(guest_script, &GUEST_SLIPS);
 }
 
 /// Random scenes find some of them too, and few lines show them.
@@ -2098,20 +2092,9 @@ const DEPTH_SLIPS: [(&str, Perform); 22] = [
 /// The script with everything about depths is part of every run: it alone shows each slip in them, and few lines do.
 #[test]
 fn copies_with_a_slip_in_depths() {
-    let folder = Folder::new().unwrap();
-    let (script, _) = depths_script(42, folder.path());
-    let run = |perform| {
-        let program = InProcess {
-            name: "",
-            perform,
-            folder: &folder,
-        };
-        program.run(&script).unwrap()
-    };
-    let expected = run(model);
+    shown_by(depths_script, &DEPTH_SLIPS);
     for (slip, perform) in DEPTH_SLIPS {
         println!("{slip}");
-        assert_ne!(run(perform), expected, "{slip}");
         caught(perform, 30);
     }
 }

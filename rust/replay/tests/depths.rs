@@ -1,25 +1,9 @@
 //! What `--explain` says of tables of three, four and five levels: the modes by name, the rules about an address's high bits, leaves of
 //! every size, and the picture of the deepest walk.
 
-use std::io::Write;
-use std::process::{Command, Stdio};
+mod common;
 
-/// What the program writes with an option.
-fn written(option: &str, script: &str) -> String {
-    let mut child = Command::new(env!("CARGO_BIN_EXE_replay"))
-        .arg(option)
-        .stdin(Stdio::piped())
-        .stdout(Stdio::piped())
-        .spawn()
-        .expect("the program starts");
-    let mut stdin = child.stdin.take().expect("standard input is a pipe");
-    stdin
-        .write_all(script.as_bytes())
-        .expect("the script is written");
-    drop(stdin);
-    let output = child.wait_with_output().expect("the program ends").stdout;
-    String::from_utf8(output).expect("explanations are text")
-}
+use common::written;
 
 /// The explanations of a script.
 fn lines(script: &str) -> Vec<String> {

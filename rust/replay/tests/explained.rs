@@ -1,8 +1,10 @@
 //! What `--explain` says, word for word: the examples' explanations and pictures, and lines that no example has.
 
-use std::io::Write;
+mod common;
+
+use common::written;
 use std::path::{Path, PathBuf};
-use std::process::{Command, Stdio};
+use std::process::Command;
 
 fn examples() -> PathBuf {
     Path::new(env!("CARGO_MANIFEST_DIR")).join("../../examples")
@@ -56,23 +58,6 @@ fn the_pictures() {
         let difference = first_difference(&drawn, &golden);
         assert_eq!(difference, None, "{}", picture.display());
     }
-}
-
-/// What the program writes with an option.
-fn written(option: &str, script: &str) -> String {
-    let mut child = Command::new(env!("CARGO_BIN_EXE_replay"))
-        .arg(option)
-        .stdin(Stdio::piped())
-        .stdout(Stdio::piped())
-        .spawn()
-        .expect("the program starts");
-    let mut stdin = child.stdin.take().expect("standard input is a pipe");
-    stdin
-        .write_all(script.as_bytes())
-        .expect("the script is written");
-    drop(stdin);
-    let output = child.wait_with_output().expect("the program ends").stdout;
-    String::from_utf8(output).expect("explanations are text")
 }
 
 /// The explanations of a script, without answers and the lines that quote the script.

@@ -626,22 +626,12 @@ fn written(hart: &Hart, form: &'static str, number: u64, action: Action) -> Opti
 
 #[cfg(test)]
 mod tests {
+    use super::super::tests::notes;
     use super::*;
-    use second::script::{parse, Session};
-    use std::path::PathBuf;
 
     /// Notes the lines of a script, with its answers changed.
     fn noted_with(script: &str, change: fn(&mut Answer)) -> Deep {
-        let mut deep = Deep::default();
-        let mut session = Session::new(PathBuf::new());
-        for line in script.split(';') {
-            let line = parse(line.as_bytes()).unwrap().unwrap();
-            let before = Before::of(&session, &line);
-            let mut answer = session.perform(&line).unwrap();
-            change(&mut answer);
-            deep.note(&line, &before, &answer);
-        }
-        deep
+        notes(script, change, Deep::note)
     }
 
     /// Notes the lines of a script.

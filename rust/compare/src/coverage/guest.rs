@@ -932,22 +932,12 @@ pub fn has_mprv(hart: &Hart) -> bool {
 
 #[cfg(test)]
 mod tests {
+    use super::super::tests::notes;
     use super::*;
-    use second::script::{parse, Session};
-    use std::path::PathBuf;
 
     /// Notes the lines of a script, with its answers changed.
     fn noted_with(script: &str, change: fn(&mut Answer)) -> Guest {
-        let mut guest = Guest::default();
-        let mut session = Session::new(PathBuf::new());
-        for line in script.split(';') {
-            let line = parse(line.as_bytes()).unwrap().unwrap();
-            let before = Before::of(&session, &line);
-            let mut answer = session.perform(&line).unwrap();
-            change(&mut answer);
-            guest.note(&line, &before, &answer);
-        }
-        guest
+        notes(script, change, Guest::note)
     }
 
     /// Notes the lines of a script.
