@@ -25,14 +25,15 @@ closed-by : (p out : List ℕ) (rs : List Read) → length p ≡ list-at → len
     → sets (p ++ drop list-at (sets out list-at (readWords rs))) (list-at + 4 * length rs) (replicate (translation-size - (list-at + 4 * length rs)) 0) ≡ p ++ readWords (padded places rs)
 closed-by p out rs e l few =
     let ws = readWords rs in
+    let n = list-at + 4 * length rs in
+    let zeros : List ℕ = replicate (translation-size - n) 0 in
     let rest = drop (7 + length ws) out in
-    let zeros : translation-size - (list-at + 4 * length rs) ≡ 4 * (places - length rs) = omega arith in
+    let left : translation-size - n ≡ 4 * (places - length rs) = omega arith in
     let list : drop list-at (sets out list-at ws) ≡ ws ++ rest = ap (drop 7) (sets-eq ws out 7 (omega (arith, length-words rs)) ∙ append-assoc (take 7 out) ws rest) ∙ drop-at (take 7 out) (ws ++ rest) 7 (length-take-le 7 out (omega arith)) in
-    ap (λ (r : List ℕ). sets (p ++ r) (list-at + 4 * length rs) (replicate (translation-size - (list-at + 4 * length rs)) 0)) list
-    ∙ ap (λ (r : List ℕ). sets r (list-at + 4 * length rs) (replicate (translation-size - (list-at + 4 * length rs)) 0)) (sym (append-assoc p ws rest))
-    ∙ over-rest (p ++ ws) rest (replicate (translation-size - (list-at + 4 * length rs)) 0) (list-at + 4 * length rs) (simp length-append (omega (arith, e, length-words rs))) (simp (length-drop, length-replicate) (omega (arith, length-words rs)))
-    ∙ append-assoc p ws (replicate (translation-size - (list-at + 4 * length rs)) 0)
-    ∙ ap (λ (r : List ℕ). p ++ r) (rw zeros (sym (words-append rs (unused (places - length rs)) ∙ ap (λ (r : List ℕ). ws ++ r) (words-unused (places - length rs)))))
+    ap (λ (r : List ℕ). sets r n zeros) (ap (λ (r : List ℕ). p ++ r) list ∙ sym (append-assoc p ws rest))
+    ∙ over-rest (p ++ ws) rest zeros n (simp length-append (omega (arith, e, length-words rs))) (simp (length-drop, length-replicate) (omega (arith, length-words rs)))
+    ∙ append-assoc p ws zeros
+    ∙ ap (λ (r : List ℕ). p ++ r) (rw left (sym (words-append rs (unused (places - length rs)) ∙ ap (λ (r : List ℕ). ws ++ r) (words-unused (places - length rs)))))
 
 pub closed : (x : Answer) (out : List ℕ) (rs : List Read) → length out ≡ translation-size → length rs ≤ places
     → sets (answerWords x ++ (length rs ∷ drop list-at (sets out list-at (readWords rs)))) (list-at + 4 * length rs) (replicate (translation-size - (list-at + 4 * length rs)) 0)
