@@ -16,16 +16,11 @@ use Rattle.effective.specs.declared.Paging.{Paging}
 use Rattle.effective.specs.declared.EffectiveMode.{EffectiveMode}
 use Rattle.effective.specs.Effective.{isBare, depth, root, off, firstRoot, secondRoot}
 
--- what holds of each of the depths holds of every MODE's
-each-depth : (P : ℕ → Type 0) (mode : ℕ) → P 0 → P 3 → P 4 → P 5 → P (depth mode)
-unfolding depth
-each-depth P mode none three four five = go (eqb mode 0) (eqb mode 8) (eqb mode 9)
-  where
-    go : (a b c : Bool) → P (pick a 0 (pick b 3 (pick c 4 5)))
-    go true b c = none
-    go false true c = three
-    go false false true = four
-    go false false false = five
+-- what holds of 3, 4 and 5 holds of every depth but Bare's
+each-on : (P : ℕ → Type 0) (b c : Bool) → P 3 → P 4 → P 5 → P (pick b 3 (pick c 4 5))
+each-on P true c three four five = three
+each-on P false true three four five = four
+each-on P false false three four five = five
 
 -- four bits for each MODE
 abbrev four-bits : ℕ → ℕ
@@ -41,12 +36,11 @@ bare-depth x e = rw e
 
 pub on-depth : (x : ℕ) → isBare x ≡ false → 0 < depth (get MODE x)
 unfolding depth
-on-depth x e = rw e (go (eqb (get MODE x) 8) (eqb (get MODE x) 9))
-  where
-    go : (b c : Bool) → 0 < pick b 3 (pick c 4 5)
-    go true c = omega arith
-    go false true = omega arith
-    go false false = omega arith
+on-depth x e = rw e (each-on (λ n. 0 < n) (eqb (get MODE x) 8) (eqb (get MODE x) 9) (omega arith) (omega arith) (omega arith))
+
+depth-five : (mode : ℕ) → depth mode ≤ 5
+unfolding depth
+depth-five mode = pick-both (λ n. n ≤ 5) (eqb mode 0) 0 _ (λ e. omega arith) (λ e. each-on (λ n. n ≤ 5) (eqb mode 8) (eqb mode 9) (omega arith) (omega arith) (omega arith))
 
 -- tables of at most five levels
 pub record Five (r : Root) : Type 0 where
@@ -57,7 +51,7 @@ five-off : Five off
 five-off = record { levels = omega arith; ppn = omega arith }
 
 five-root : (x : ℕ) → Five (root x)
-five-root x = record { levels = each-depth (λ n. n ≤ 5) (get MODE x) (omega arith) (omega arith) (omega arith) (omega arith); ppn = get-lt PPN x }
+five-root x = record { levels = depth-five (get MODE x); ppn = get-lt PPN x }
 
 pub first-five : (p : Paging) (m : EffectiveMode) → Five (firstRoot p m)
 unfolding firstRoot
