@@ -88,6 +88,10 @@ by-satp mode address = first-read (walked (in-mode 0 1 (satp ↢ rooted mode ∷
 abbrev by-vsatp : (mode address : ℕ) → ℕ
 by-vsatp mode address = first-read (walked (in-mode 1 1 (vsatp ↢ rooted mode ∷ [])) 0 address)
 
+-- satp's answer, where vsatp's is the same
+abbrev by-either : (mode address : ℕ) → ℕ
+by-either mode address = pick (eqb (by-satp mode address) (by-vsatp mode address)) (by-satp mode address) 0
+
 abbrev by-hgatp : (mode address : ℕ) → ℕ
 by-hgatp mode address = first-read (walked (in-mode 1 1 (hgatp ↢ rooted mode ∷ [])) 0 address)
 
@@ -115,34 +119,35 @@ accepted place mode = pick (passes (in-mode 0 3 (place ↢ rooted mode ∷ [])))
 
 abbrev cases : List Replay
 cases =
-    -- "Address checks become 48 or 57 bits first stage": the highest and the lowest well-formed address of each half, and the ill-formed ones next to them
-    by-satp 8 0x3FFFFFFFFF gives 0x800007F8 ∷
-    by-satp 8 0x4000000000 gives 13 ∷
-    by-satp 8 0xFFFFFFBFFFFFFFFF gives 13 ∷
-    by-satp 8 0xFFFFFFC000000000 gives 0x80000800 ∷
-    by-satp 9 0x7FFFFFFFFFFF gives 0x800007F8 ∷
-    by-satp 9 0x800000000000 gives 13 ∷
-    by-satp 9 0xFFFF7FFFFFFFFFFF gives 13 ∷
-    by-satp 9 0xFFFF800000000000 gives 0x80000800 ∷
-    by-satp 10 0xFFFFFFFFFFFFFF gives 0x800007F8 ∷
-    by-satp 10 0x100000000000000 gives 13 ∷
-    by-satp 10 0xFEFFFFFFFFFFFFFF gives 13 ∷
-    by-satp 10 0xFF00000000000000 gives 0x80000800 ∷
-    by-vsatp 9 0x7FFFFFFFFFFF gives 0x800007F8 ∷
-    by-vsatp 9 0x800000000000 gives 13 ∷
-    by-vsatp 10 0xFFFFFFFFFFFFFF gives 0x800007F8 ∷
-    by-vsatp 10 0x100000000000000 gives 13 ∷
-    -- "50 or 59 second": the highest, at the last of the root's 2048 entries, and the first ill-formed one
+    -- "Address checks become 48 or 57 bits first stage": the lowest and highest well-formed address of each half, and the ill-formed ones between them
+    by-either 8 0 gives 0x80000000 ∷
+    by-either 8 0x3FFFFFFFFF gives 0x800007F8 ∷
+    by-either 8 0x4000000000 gives 13 ∷
+    by-either 8 0xFFFFFFBFFFFFFFFF gives 13 ∷
+    by-either 8 0xFFFFFFC000000000 gives 0x80000800 ∷
+    by-either 8 0xFFFFFFFFFFFFFFFF gives 0x80000FF8 ∷
+    by-either 9 0 gives 0x80000000 ∷
+    by-either 9 0x7FFFFFFFFFFF gives 0x800007F8 ∷
+    by-either 9 0x800000000000 gives 13 ∷
+    by-either 9 0xFFFF7FFFFFFFFFFF gives 13 ∷
+    by-either 9 0xFFFF800000000000 gives 0x80000800 ∷
+    by-either 9 0xFFFFFFFFFFFFFFFF gives 0x80000FF8 ∷
+    by-either 10 0 gives 0x80000000 ∷
+    by-either 10 0xFFFFFFFFFFFFFF gives 0x800007F8 ∷
+    by-either 10 0x100000000000000 gives 13 ∷
+    by-either 10 0xFEFFFFFFFFFFFFFF gives 13 ∷
+    by-either 10 0xFF00000000000000 gives 0x80000800 ∷
+    by-either 10 0xFFFFFFFFFFFFFFFF gives 0x80000FF8 ∷
+    -- "50 or 59 second": the lowest, the highest, at the last of the root's 2048 entries, and the first ill-formed one
+    by-hgatp 8 0 gives 0x80000000 ∷
     by-hgatp 8 0x1FFFFFFFFFF gives 0x80003FF8 ∷
     by-hgatp 8 0x20000000000 gives 21 ∷
+    by-hgatp 9 0 gives 0x80000000 ∷
     by-hgatp 9 0x3FFFFFFFFFFFF gives 0x80003FF8 ∷
     by-hgatp 9 0x4000000000000 gives 21 ∷
+    by-hgatp 10 0 gives 0x80000000 ∷
     by-hgatp 10 0x7FFFFFFFFFFFFFF gives 0x80003FF8 ∷
     by-hgatp 10 0x800000000000000 gives 21 ∷
-    -- the lowest of each
-    by-satp 10 0 gives 0x80000000 ∷
-    by-satp 10 0xFFFFFFFFFFFFFFFF gives 0x80000FF8 ∷
-    by-hgatp 10 0 gives 0x80000000 ∷
     -- eleven index bits at the top level, nine below
     down-from-hgatp 9 0x3FFFFFFFFFFFF gives 0x233FF8220FF8210FF8200FF8 ∷
     down-from-hgatp 10 0x7FFFFFFFFFFFFFF gives 0x243FF8230FF8220FF8210FF8200FF8 ∷
