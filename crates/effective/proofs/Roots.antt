@@ -1,9 +1,10 @@
 -- The tables that an access goes by: at most five levels, none exactly in Bare. Assumes nothing.
-use mathlib.Core.Path.{_≡_, refl}
+use mathlib.Core.Path.{_≡_}
 use mathlib.Core.Bool.{Bool, true, false}
 use Prim.Native.Nat.{ℕ, _*_, _/_, _%_, _^_, _<_, _≤_}
 use native.Mathlib.Omega.{arith}
 use lib.Dec.{eqb}
+use lib.ListN.{replicate}
 use borrow.Author.Tests.{eqb-true}
 use Rattle.bits.specs.Field.{pick, get}
 use Rattle.bits.specs.Every.{every}
@@ -22,13 +23,12 @@ each-on P true c three four five = three
 each-on P false true three four five = four
 each-on P false false three four five = five
 
--- four bits for each MODE
-abbrev four-bits : ℕ → ℕ
-four-bits mode = 0x5555554355555550 / 2 ^ (4 * mode) % 16
+-- a word that has the depths, four bits for each MODE
+abbrev pub four-bits : ℕ → ℕ → ℕ
+four-bits word mode = word / 2 ^ (4 * mode) % 16
 
-pub packed : (mode : ℕ) → mode < 16 → four-bits mode ≡ depth mode
-unfolding every depth
-packed mode small = eqb-true _ _ (every-below (λ m. eqb (four-bits m) (depth m)) 16 refl mode small)
+pub packed : (word : ℕ) → every (λ i (x : ℕ). eqb (four-bits word i) (depth i)) 0 (replicate 16 0) ≡ true → (mode : ℕ) → mode < 16 → four-bits word mode ≡ depth mode
+packed word all mode small = eqb-true _ _ (every-below (λ m. eqb (four-bits word m) (depth m)) 16 all mode small)
 
 pub bare-depth : (x : ℕ) → isBare x ≡ true → depth (get MODE x) ≡ 0
 unfolding depth

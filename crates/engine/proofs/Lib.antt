@@ -1,3 +1,4 @@
 pub mod Zeros
 pub mod Walks
 pub mod Places
+pub mod Left

@@ -3,7 +3,6 @@ use mathlib.Core.List.{[]}
 use Prim.Native.Nat.{_+_, _-_, _*_, _/_, _≤_, zero-le}
 use native.Mathlib.Omega.{arith}
 use lib.ListN.{length}
-use lib.Seq.{length-sets}
 use denote.Ref.{now}
 use borrow.Author.Needs.{needs}
 use Rattle.access.specs.declared.Access.{Access}
@@ -11,9 +10,9 @@ use Rattle.access.specs.declared.Machine.{Machine}
 use Rattle.stages.specs.Tree.{Ran, run}
 use Rattle.stages.specs.Stages.{Result, look, walkOf}
 use Rattle.stages.specs.Listed.{places}
-use Rattle.second_stage.specs.Words.{Into, result, onto}
-use Rattle.second_stage.proofs.Runs.{written, into-run}
+use Rattle.second_stage.specs.Words.{result}
 use Rattle.engine.proofs.Places.{enough, few}
+use Rattle.engine.proofs.Left.{Left, left-by}
 use Rattle.translate.specs.Translated.{answer}
 use Rattle.translate.proofs.Accesses.{Walking, at-once, walking}
 use Rattle.listing.specs.Listing.{list-at, translation-size, translationWords}
@@ -54,24 +53,21 @@ ran w = let a = w .before .before .before .before .before .before .before .befor
 
 -- what the walk left
 left : (w : tie.After-walk-into) → let a = w .before .before .before .before .before .before .before .before .args in
-    onto (w .walk-into .last .1 .1 .1 .1 .0) (w .walk-into .result .next) (result (w .walk-into .result .reached)) ≡ written (ran w) (now (a .out)) list-at
+    Left (ran w) (now (a .out)) list-at (w .walk-into .last .1 .1 .1 .1 .0) (w .walk-into .result .next) (result (w .walk-into .result .reached))
 left w =
     let a = w .before .before .before .before .before .before .before .before .args in
-    w .walk-into .ensures ∙ into-run (look (a .base) (now (a .bytes))) (walkOf (a .base) (length (now (a .bytes))) (walked-for (w .before))) (now (a .out)) list-at
-
-next : (w : tie.After-walk-into) → w .walk-into .result .next ≡ list-at + 4 * length (ran w .reads)
-next w = ap (λ (i : Into (Result Machine)). i .next) (left w)
+    left-by (look (a .base) (now (a .bytes))) (walkOf (a .base) (length (now (a .bytes))) (walked-for (w .before))) (now (a .out)) list-at (w .walk-into .ensures)
 
 room : (w : tie.After-walk-into) → length (ran w .reads) ≤ places
 room w = let a = w .before .before .before .before .before .before .before .before .args in few (walked-for (w .before)) (a .base) (length (now (a .bytes))) (look (a .base) (now (a .bytes))) (starts-walk (w .before) .tables)
 
 size : (w : tie.After-walk-into) → length (w .walk-into .last .1 .1 .1 .1 .0) ≡ translation-size
-size w = ap length (ap (λ (i : Into (Result Machine)). i .words) (left w)) ∙ simp length-sets (w .before .before .before .before .before .before .before .before .pre)
+size w = left w .size ∙ w .before .before .before .before .before .before .before .before .pre
 
 clear-requires-2 : tie.Need-clear-requires-2
 clear-requires-2 c κs =
     let w = c .before .before .before .before .before .before .before .before in
-    (omega (arith, next w, room w), omega (arith, ap length (c .before .before .before .put-answer2 .ensures) ∙ answer-length (c .before .before .before .before .before .answered .result) ((w .walk-into .result .next - list-at) / 4) (w .walk-into .last .1 .1 .1 .1 .0) (omega (arith, size w)), size w))
+    (omega (arith, left w .next, room w), omega (arith, ap length (c .before .before .before .put-answer2 .ensures) ∙ answer-length (c .before .before .before .before .before .answered .result) ((w .walk-into .result .next - list-at) / 4) (w .walk-into .last .1 .1 .1 .1 .0) (omega (arith, size w)), size w))
 
 returns-2 : tie.Need-returns-2
 unfolding translationWords
@@ -83,9 +79,9 @@ returns-2 c =
       c .before .before .clear2 .ensures,
       c .before .before .before .before .before .before .put-answer2 .ensures,
       c .before .before .before .before .before .before .before .before .answered .ensures,
-      ap (λ (i : Into (Result Machine)). i .end) (left w),
-      ap (λ (i : Into (Result Machine)). i .words) (left w),
-      next w,
+      left w .end,
+      left w .words,
+      left w .next,
       count,
     )
     (closed (answer (ran w .end)) (now (w .before .before .before .before .before .before .before .before .args .out)) (ran w .reads) (w .before .before .before .before .before .before .before .before .pre) (room w))
@@ -94,5 +90,5 @@ pub translate-into-spec : {M : Type 1} → statement M
 translate-into-spec =
     tie.close
     (tie.spec
-    (λ c κs. search needs) (λ c. search needs) (λ c κs. search needs) clear-requires (λ c. search needs) walk-into-requires (λ c. omega (arith, next (c .before .before)))
+    (λ c κs. search needs) (λ c. search needs) (λ c κs. search needs) clear-requires (λ c. search needs) walk-into-requires (λ c. omega (arith, left (c .before .before) .next))
     (λ c κs. search needs) (λ c κs. size (c .before .before .before .before)) clear-requires-2 (λ c. search needs) returns (λ c. search needs) returns-2)
