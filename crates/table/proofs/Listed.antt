@@ -8,7 +8,7 @@ use Rattle.registers.specs.Registers.{count, register, registers, at}
 use Rattle.table.specs.declared.Row.{Row}
 use Rattle.table.specs.declared.Found.the-variants.{At}
 use Rattle.table.specs.Table.{rowOf, table, firstAt}
-use Rattle.table.proofs.Search.{found}
+use Rattle.table.proofs.First.{found}
 
 pub record Listed (n i : ℕ) (r : Row) : Type 0 where
   pub below : i < count

@@ -2,9 +2,11 @@
 ghost use mathlib.Core.Path.{_≡_};
 ghost use mathlib.Core.List.{map};
 ghost use Prim.Native.Nat.{_<_};
+ghost use lib.ListN.{getD};
 ghost use Rattle.registers.specs.Registers.{count, Register, registers, at};
 ghost use Rattle.table.specs.Table.{keptOf, twinRow, reached, numbers, numberAt};
 use crate::ROWS;
+use bits::select;
 use registers::masks;
 use registers::places;
 
@@ -17,9 +19,31 @@ pub struct Kept {
     pub gate: usize,
 }
 
-const UNGATED: u8 = places::KEPT as u8;
+// The rows of the registers that show some bits of another's place, or none.
+const SSTATUS: usize = 0;
 
-// By row: the place of its bits. hgeie and hgeip have none.
+const SIE: usize = 1;
+
+const SIP: usize = 7;
+
+const VSIE: usize = 10;
+
+const VSIP: usize = 16;
+
+const HGEIE: usize = 34;
+
+const HIE: usize = 33;
+
+const HIP: usize = 36;
+
+const HVIP: usize = 37;
+
+const HGEIP: usize = 40;
+
+// So many S registers stand first in the table, and behind them as many VS registers, each in the place of its S register.
+const S_ROWS: usize = 9;
+
+// By row: the place of its bits. (An array that is indexed by a variable is written out first: these are bytes.) hgeie and hgeip have none.
 const HOMES: [u8; ROWS] = [
     places::MSTATUS as u8,
     places::MIE as u8,
@@ -64,186 +88,6 @@ const HOMES: [u8; ROWS] = [
     0,
 ];
 
-// How far up they stand there.
-const SHIFTS: [u8; ROWS] = [
-    0,
-    0,
-    0,
-    0,
-    0,
-    0,
-    0,
-    0,
-    0,
-    0,
-    1,
-    0,
-    0,
-    0,
-    0,
-    0,
-    1,
-    0,
-    0,
-    0,
-    0,
-    0,
-    0,
-    0,
-    0,
-    0,
-    0,
-    0,
-    0,
-    0,
-    0,
-    0,
-    0,
-    0,
-    0,
-    0,
-    0,
-    0,
-    0,
-    0,
-    0,
-];
-
-// Those that it shows.
-const SHOWS: [u64; ROWS] = [
-    masks::SSTATUS,
-    masks::S_INTERRUPTS,
-    masks::WORD,
-    masks::WORD,
-    masks::WORD,
-    masks::WORD,
-    masks::WORD,
-    masks::S_INTERRUPTS,
-    masks::WORD,
-    masks::WORD,
-    masks::S_INTERRUPTS,
-    masks::WORD,
-    masks::WORD,
-    masks::WORD,
-    masks::WORD,
-    masks::WORD,
-    masks::S_INTERRUPTS,
-    masks::WORD,
-    masks::WORD,
-    masks::WORD,
-    masks::WORD,
-    masks::WORD,
-    masks::WORD,
-    masks::WORD,
-    masks::WORD,
-    masks::WORD,
-    masks::WORD,
-    masks::WORD,
-    masks::WORD,
-    masks::WORD,
-    masks::WORD,
-    masks::WORD,
-    masks::WORD,
-    masks::VS_INTERRUPTS,
-    0,
-    masks::WORD,
-    masks::VS_INTERRUPTS,
-    masks::VS_INTERRUPTS,
-    masks::WORD,
-    masks::WORD,
-    0,
-];
-
-// The place of its gate.
-const GATES: [u8; ROWS] = [
-    UNGATED,
-    places::MIDELEG as u8,
-    UNGATED,
-    UNGATED,
-    UNGATED,
-    UNGATED,
-    UNGATED,
-    places::MIDELEG as u8,
-    UNGATED,
-    UNGATED,
-    places::HIDELEG as u8,
-    UNGATED,
-    UNGATED,
-    UNGATED,
-    UNGATED,
-    UNGATED,
-    places::HIDELEG as u8,
-    UNGATED,
-    UNGATED,
-    UNGATED,
-    UNGATED,
-    UNGATED,
-    UNGATED,
-    UNGATED,
-    UNGATED,
-    UNGATED,
-    UNGATED,
-    UNGATED,
-    UNGATED,
-    UNGATED,
-    UNGATED,
-    UNGATED,
-    UNGATED,
-    UNGATED,
-    UNGATED,
-    UNGATED,
-    UNGATED,
-    UNGATED,
-    UNGATED,
-    UNGATED,
-    UNGATED,
-];
-
-// The row that its number reaches with V=1, for S numbers that of the VS register.
-const TWINS: [u8; ROWS] = [
-    9,
-    10,
-    11,
-    12,
-    13,
-    14,
-    15,
-    16,
-    17,
-    9,
-    10,
-    11,
-    12,
-    13,
-    14,
-    15,
-    16,
-    17,
-    18,
-    19,
-    20,
-    21,
-    22,
-    23,
-    24,
-    25,
-    26,
-    27,
-    28,
-    29,
-    30,
-    31,
-    32,
-    33,
-    34,
-    35,
-    36,
-    37,
-    38,
-    39,
-    40,
-];
-
 // The numbers of the registers that a hart keeps, by place.
 const NUMBERS: [u64; places::KEPT] = [
     0x105,
@@ -285,34 +129,55 @@ fn homes() -> [u8; ROWS]
     HOMES
 }
 
-fn shifts() -> [u8; ROWS]
-    ensures { λ r. ⌜ r ≡ map (λ (x : Register). x .view .shift) registers ⌝ }
-{
-    SHIFTS
-}
-
-fn gates() -> [u8; ROWS]
-    ensures { λ r. ⌜ r ≡ map (λ (x : Register). x .view .gate) registers ⌝ }
-{
-    GATES
-}
-
-fn shows() -> [u64; ROWS]
-    ensures { λ r. ⌜ r ≡ map (λ (x : Register). x .view .shows) registers ⌝ }
-{
-    SHOWS
-}
-
-fn twins() -> [u8; ROWS]
-    ensures { λ r. ⌜ r ≡ map twinRow registers ⌝ }
-{
-    TWINS
-}
-
 fn all_numbers() -> [u64; places::KEPT]
     ensures { λ r. ⌜ r ≡ numbers registers ⌝ }
 {
     NUMBERS
+}
+
+// How far up a row's bits stand there.
+fn shift(row: usize) -> u64
+    requires { ⌜ row < count ⌝ }
+    ensures { λ r. ⌜ r ≡ at row .view .shift ⌝ }
+{
+    select((row == VSIE) | (row == VSIP), 1, 0)
+}
+
+// Those that it shows.
+fn shows(row: usize) -> u64
+    requires { ⌜ row < count ⌝ }
+    ensures { λ r. ⌜ r ≡ at row .view .shows ⌝ }
+{
+    let s = (row == SIE) | (row == SIP) | (row == VSIE) | (row == VSIP);
+    let vs = (row == HIE) | (row == HIP) | (row == HVIP);
+    let none = (row == HGEIE) | (row == HGEIP);
+    let interrupts = select(s, masks::S_INTERRUPTS, masks::VS_INTERRUPTS);
+    let some = select(row == SSTATUS, masks::SSTATUS, select(none, 0, interrupts));
+    select((row == SSTATUS) | none | s | vs, some, masks::WORD)
+}
+
+// The place of its gate.
+fn gate(row: usize) -> u64
+    requires { ⌜ row < count ⌝ }
+    ensures { λ r. ⌜ r ≡ at row .view .gate ⌝ }
+{
+    let guest = select(
+        (row == VSIE) | (row == VSIP),
+        places::HIDELEG as u64,
+        places::KEPT as u64,
+    );
+    select((row == SIE) | (row == SIP), places::MIDELEG as u64, guest)
+}
+
+// The row that its number reaches with V=1, for S numbers that of the VS register.
+fn twin(row: usize) -> usize
+    requires { ⌜ row < count ⌝ }
+    ensures { λ r. ⌜ r ≡ getD (map twinRow registers) row 0 ⌝ }
+{
+    if row < S_ROWS {
+        return row + S_ROWS;
+    }
+    row
 }
 
 // What a row has of a place.
@@ -321,14 +186,11 @@ fn kept_at(row: usize) -> Kept
     ensures { λ r. ⌜ r ≡ keptOf (at row .view) ⌝ }
 {
     let homes = homes();
-    let shifts = shifts();
-    let shows = shows();
-    let gates = gates();
     Kept {
         home: homes[row] as usize,
-        shift: shifts[row] as u64,
-        shows: shows[row],
-        gate: gates[row] as usize,
+        shift: shift(row),
+        shows: shows(row),
+        gate: gate(row) as usize,
     }
 }
 
@@ -338,8 +200,7 @@ pub fn reach(place: usize, guest: bool) -> Kept
     ensures { λ r. ⌜ r ≡ keptOf (reached guest (at place)) ⌝ }
 {
     if guest {
-        let twins = twins();
-        return kept_at(twins[place] as usize);
+        return kept_at(twin(place));
     }
     kept_at(place)
 }

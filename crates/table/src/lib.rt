@@ -1,12 +1,30 @@
 // The table of registers, in rising order of number, and its search; where each row's bits are kept.
 ghost use mathlib.Core.Path.{_≡_};
+ghost use mathlib.Core.List.{[], _∷_, _++_};
+ghost use Prim.Native.Nat.{_+_, _≤_};
+ghost use lib.ListN.{replicate};
+ghost use Rattle.registers.specs.Registers.{count};
 ghost use Rattle.table.specs.Table.{firstAt, table};
+ghost use Rattle.table.specs.Search.{looks, none, rowAt, rowsFrom, after, halving, toldFrom, searched};
 use registers::masks;
 
 pub mod kept;
 
 // How many registers there are.
 pub const ROWS: usize = 41;
+
+// The places of the middle rows: of the table, of the rows below that and of those above; no more than a quarter of the rows is left
+// between these.
+const MIDDLE: usize = 20;
+
+const LOWER: usize = 10;
+
+const UPPER: usize = 31;
+
+const QUARTER: usize = 10;
+
+// A search looks at no more rows than these.
+pub const LOOKS: usize = 8;
 
 // The level that a number belongs to: S; VS and H; M.
 pub const SUPERVISOR: u8 = 1;
@@ -26,6 +44,13 @@ pub struct Row {
 pub enum Found {
     At(usize, Row),
     Nothing,
+}
+
+// What a search found, and the places that it looked at, so many of them, in their order; the rest are zero.
+pub struct Searched {
+    pub found: Found,
+    pub places: [usize; LOOKS],
+    pub count: usize,
 }
 
 const TABLE: [Row; ROWS] = [
@@ -324,19 +349,150 @@ fn wide(x: u16) -> u64
     x as u64
 }
 
-// The first row that bears the number n, in a table as long as ours.
-pub fn find(table: [Row; ROWS], n: u64) -> Found
-    ensures { λ r. ⌜ r ≡ firstAt table n 0 ⌝ }
+// The search goes on among the rows of a quarter, those from place first to before place end, after looks at the middle row of the
+// table and at that of the half.
+fn halve(rows: [Row; QUARTER], first: usize, end: usize, half: usize, n: u64) -> Searched
+    requires { ⌜ (first ≤ end) × (end ≤ first + 10) × (end ≤ count) ⌝ }
+    ensures { λ r. ⌜ r ≡ toldFrom (replicate looks 0) 0 (after 20 (after half (halving 6 (replicate first none ++ rows) n first end))) ⌝ }
 {
-    let mut i: usize = 0;
-    while i < ROWS {
-        let row = table[i];
+    let mut places = [MIDDLE, half, 0, 0, 0, 0, 0, 0];
+    let mut looked: usize = 2;
+    let mut low = first;
+    let mut high = end;
+    while low < high {
+        let middle = (low + high) / 2;
+        let row = rows[middle - first];
+        places[looked] = middle;
+        looked += 1;
         if wide(row.number) == n {
-            return Found::At(i, row);
+            return Searched {
+                found: Found::At(middle, row),
+                places,
+                count: looked,
+            };
         }
-        i += 1;
+        if wide(row.number) < n {
+            low = middle + 1;
+        } else {
+            high = middle;
+        }
     }
-    Found::Nothing
+    Searched {
+        found: Found::Nothing,
+        places,
+        count: looked,
+    }
+}
+
+// The rows of the four quarters, between the middle rows; the last of a shorter one stands twice.
+fn lowest(table: [Row; ROWS]) -> [Row; QUARTER]
+    ensures { λ r. ⌜ r ≡ rowsFrom table 10 0 [] ⌝ }
+{
+    [
+        table[0],
+        table[1],
+        table[2],
+        table[3],
+        table[4],
+        table[5],
+        table[6],
+        table[7],
+        table[8],
+        table[9],
+    ]
+}
+
+fn lower(table: [Row; ROWS]) -> [Row; QUARTER]
+    ensures { λ r. ⌜ r ≡ rowsFrom table 9 11 (rowAt table 19 ∷ []) ⌝ }
+{
+    [
+        table[11],
+        table[12],
+        table[13],
+        table[14],
+        table[15],
+        table[16],
+        table[17],
+        table[18],
+        table[19],
+        table[19],
+    ]
+}
+
+fn upper(table: [Row; ROWS]) -> [Row; QUARTER]
+    ensures { λ r. ⌜ r ≡ rowsFrom table 10 21 [] ⌝ }
+{
+    [
+        table[21],
+        table[22],
+        table[23],
+        table[24],
+        table[25],
+        table[26],
+        table[27],
+        table[28],
+        table[29],
+        table[30],
+    ]
+}
+
+fn highest(table: [Row; ROWS]) -> [Row; QUARTER]
+    ensures { λ r. ⌜ r ≡ rowsFrom table 9 32 (rowAt table 40 ∷ []) ⌝ }
+{
+    [
+        table[32],
+        table[33],
+        table[34],
+        table[35],
+        table[36],
+        table[37],
+        table[38],
+        table[39],
+        table[40],
+        table[40],
+    ]
+}
+
+// The row that bears the number n, in any table as long as ours, if its numbers rise. An array that is indexed by a variable is
+// written out first, and of a constant table that would be every row at each search: so two looks go to fixed places, where the
+// compiler knows the rows, and only a quarter of them is written out.
+pub fn search(table: [Row; ROWS], n: u64) -> Searched
+    ensures { λ r. ⌜ r ≡ searched table n ⌝ }
+{
+    let row = table[MIDDLE];
+    if wide(row.number) == n {
+        return Searched {
+            found: Found::At(MIDDLE, row),
+            places: [MIDDLE, 0, 0, 0, 0, 0, 0, 0],
+            count: 1,
+        };
+    }
+    if wide(row.number) < n {
+        let row = table[UPPER];
+        if wide(row.number) == n {
+            return Searched {
+                found: Found::At(UPPER, row),
+                places: [MIDDLE, UPPER, 0, 0, 0, 0, 0, 0],
+                count: 2,
+            };
+        }
+        if wide(row.number) < n {
+            return halve(highest(table), UPPER + 1, ROWS, UPPER, n);
+        }
+        return halve(upper(table), MIDDLE + 1, UPPER, UPPER, n);
+    }
+    let row = table[LOWER];
+    if wide(row.number) == n {
+        return Searched {
+            found: Found::At(LOWER, row),
+            places: [MIDDLE, LOWER, 0, 0, 0, 0, 0, 0],
+            count: 2,
+        };
+    }
+    if wide(row.number) < n {
+        return halve(lower(table), LOWER + 1, MIDDLE, LOWER, n);
+    }
+    halve(lowest(table), 0, LOWER, LOWER, n)
 }
 
 // The table; a function that used the constant would carry a copy of it in its proof.
@@ -350,5 +506,7 @@ fn rows() -> [Row; ROWS]
 pub fn lookup(n: u64) -> Found
     ensures { λ r. ⌜ r ≡ firstAt table n 0 ⌝ }
 {
-    find(rows(), n)
+    let search = search(rows(), n);
+    let found = search.found;
+    found
 }

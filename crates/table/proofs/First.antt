@@ -1,46 +1,27 @@
--- `firstAt` from place i on: what one turn of a search shows. Assumes nothing.
+-- The first row that bears a number (`firstAt`): it stands there and bears it, and there is none exactly if no row does. Assumes nothing.
 use mathlib.Core.Path.{_≡_, refl, sym, ap, _∙_}
 use mathlib.Core.List.{List, [], _∷_}
-use Prim.Native.Nat.{ℕ, zero, suc, _+_, _<_, _≤_}
-use native.Mathlib.Numerals.{add-one}
+use Prim.Native.Nat.{ℕ, zero, suc, _+_, _<_}
 use native.Mathlib.Omega.{arith}
 use native.Mathlib.Nat.{le-of-suc-le-suc}
 use mathlib.Core.Logic.{_↔_}
 use mathlib.Core.Bool.{Bool, true, false}
 use lib.Dec.{eqb}
-use lib.ListN.{length, getD, drop, drop-of-length-le}
-use lib.Seq.{drop-cons}
-use borrow.Author.Tests.{eq-eqb, ne-eqb, eqb-true, eqb-false}
+use lib.ListN.{length}
+use borrow.Author.Tests.{ne-eqb, eqb-true, eqb-false}
 use Rattle.bits.specs.Field.{pick}
 use Rattle.bits.proofs.Bools.{clash}
 use Rattle.table.specs.declared.Row.{Row}
 use Rattle.table.specs.declared.Found.the-variants.{At, Nothing}
 use Rattle.table.specs.Table.{firstAt}
-
--- what stands past a table's end
-abbrev pub none : Row
-none = record { number = 0; level = 0; «read_only» = false; mask = 0 }
-
-pub first-here : (t : List Row) (n i : ℕ) → i < length t → getD t i none .number ≡ n → firstAt (drop i t) n i ≡ At i (getD t i none)
-unfolding firstAt
-first-here t n i h e = rw (drop-cons t i none h) (simp (eq-eqb _ _ e))
-
-pub first-next : (t : List Row) (n i : ℕ) → i < length t → (getD t i none .number ≡ n → ⊥) → firstAt (drop i t) n i ≡ firstAt (drop (i + 1) t) n (i + 1)
-unfolding firstAt
-first-next t n i h e = rw (drop-cons t i none h, add-one i) (simp (ne-eqb _ _ e))
-
-pub first-end : (t : List Row) (n i : ℕ) → length t ≤ i → firstAt (drop i t) n i ≡ Nothing
-unfolding firstAt
-first-end t n i h = rw (drop-of-length-le t h)
-
--- ---- what a search finds
+use Rattle.table.specs.Search.{rowAt}
 
 -- r is found at place i by a search that counts from k: it stands there, and bears n
 pub record Bears (t : List Row) (n k i : ℕ) (r : Row) : Type 0 where
   pub offset : ℕ
   pub counted : i ≡ k + offset
   pub within : offset < length t
-  pub here : getD t offset none ≡ r
+  pub here : rowAt t offset ≡ r
   pub bears : r .number ≡ n
 
 -- whatever is found bears the number
@@ -60,7 +41,7 @@ found (x ∷ xs) n k i r e = at (eqb (x .number) n) refl e (found xs n (suc k) i
 
 -- no row bears the number
 abbrev pub Unlisted : List Row → ℕ → Type 0
-Unlisted t n = (j : ℕ) → j < length t → getD t j none .number ≡ n → ⊥
+Unlisted t n = (j : ℕ) → j < length t → rowAt t j .number ≡ n → ⊥
 
 none-bears : (t : List Row) (n k : ℕ) → firstAt t n k ≡ Nothing → Unlisted t n
 unfolding firstAt
