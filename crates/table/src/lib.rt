@@ -343,10 +343,10 @@ const TABLE: [Row; ROWS] = [
     },
 ];
 
-fn wide(x: u16) -> u64
-    ensures { λ r. ⌜ r ≡ x ⌝ }
+fn number_of(row: Row) -> u64
+    ensures { λ r. ⌜ r ≡ row .number ⌝ }
 {
-    x as u64
+    row.number as u64
 }
 
 // The search goes on among the rows of a quarter, those from place first to before place end, after looks at the middle row of the
@@ -362,16 +362,17 @@ fn halve(rows: [Row; QUARTER], first: usize, end: usize, half: usize, n: u64) ->
     while low < high {
         let middle = (low + high) / 2;
         let row = rows[middle - first];
+        let number = number_of(row);
         places[looked] = middle;
         looked += 1;
-        if wide(row.number) == n {
+        if number == n {
             return Searched {
                 found: Found::At(middle, row),
                 places,
                 count: looked,
             };
         }
-        if wide(row.number) < n {
+        if number < n {
             low = middle + 1;
         } else {
             high = middle;
@@ -460,36 +461,36 @@ pub fn search(table: [Row; ROWS], n: u64) -> Searched
     ensures { λ r. ⌜ r ≡ searched table n ⌝ }
 {
     let row = table[MIDDLE];
-    if wide(row.number) == n {
+    if number_of(row) == n {
         return Searched {
             found: Found::At(MIDDLE, row),
             places: [MIDDLE, 0, 0, 0, 0, 0, 0, 0],
             count: 1,
         };
     }
-    if wide(row.number) < n {
+    if number_of(row) < n {
         let row = table[UPPER];
-        if wide(row.number) == n {
+        if number_of(row) == n {
             return Searched {
                 found: Found::At(UPPER, row),
                 places: [MIDDLE, UPPER, 0, 0, 0, 0, 0, 0],
                 count: 2,
             };
         }
-        if wide(row.number) < n {
+        if number_of(row) < n {
             return halve(highest(table), UPPER + 1, ROWS, UPPER, n);
         }
         return halve(upper(table), MIDDLE + 1, UPPER, UPPER, n);
     }
     let row = table[LOWER];
-    if wide(row.number) == n {
+    if number_of(row) == n {
         return Searched {
             found: Found::At(LOWER, row),
             places: [MIDDLE, LOWER, 0, 0, 0, 0, 0, 0],
             count: 2,
         };
     }
-    if wide(row.number) < n {
+    if number_of(row) < n {
         return halve(lower(table), LOWER + 1, MIDDLE, LOWER, n);
     }
     halve(lowest(table), 0, LOWER, LOWER, n)

@@ -1,6 +1,7 @@
 //! Harts, images and accesses: walks of 0, 3 and 15 reads, walks that end with a fault, and a hart that is refused; then walks through
 //! tables of four and five levels, of 23, 24 and 35 reads.
 
+use crate::call::{self, HartWords};
 use balcumentri::{Access, Answer, Hart, Image, Kind};
 use compare::rng::Rng;
 use std::fmt;
@@ -15,6 +16,8 @@ pub struct Case {
     pub outcome: Outcome,
     /// The hart.
     pub hart: Hart,
+    /// Its words.
+    pub words: HartWords,
     /// The accesses, in the order of their translation.
     pub accesses: Vec<Access>,
     bytes: Vec<u8>,
@@ -226,6 +229,7 @@ fn made(plan: &Plan) -> Case {
         name: plan.name,
         reads: plan.reads,
         outcome: plan.outcome,
+        words: call::words(&hart),
         hart,
         accesses: accesses.collect(),
         bytes: memory.bytes,

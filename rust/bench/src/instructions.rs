@@ -1,27 +1,20 @@
-//! How many instructions a translation takes, by callgrind: the program runs itself under valgrind, which counts inside one
-//! function and what it calls.
+//! How many instructions an access takes, by callgrind: the program runs itself under valgrind, which counts inside one function and
+//! what it calls.
 
-use crate::sides::Side;
 use std::io::ErrorKind;
 use std::path::Path;
 use std::process::Command;
 
-/// The sides whose instructions are counted, each with its function's symbol.
-pub const COUNTED: [(Side, &str); 2] = [
-    (Side::Plain, "plain_translate"),
-    (Side::Call, "balcumentri_translate"),
-];
-
-/// The argument for the program to translate the accesses of a case once: the case's place and a counted symbol come after it.
+/// The argument for the program to make the accesses of a case once: the part, the case's place and a counted symbol come after it.
 pub const ONCE: &str = "--once";
 
 /// The instructions that all accesses of a case take together inside a function, or why they can't be counted.
-pub fn count(program: &Path, case: usize, symbol: &str) -> Result<u64, String> {
+pub fn count(program: &Path, part: &str, case: usize, symbol: &str) -> Result<u64, String> {
     let run = Command::new("valgrind")
         .args(["--tool=callgrind", "--callgrind-out-file=/dev/null"])
         .arg(format!("--toggle-collect={symbol}"))
         .arg(program)
-        .args([ONCE, &case.to_string(), symbol])
+        .args([ONCE, part, &case.to_string(), symbol])
         .output();
     let said = run.map_err(|error| match error.kind() {
         ErrorKind::NotFound => "valgrind is not in PATH".to_string(),

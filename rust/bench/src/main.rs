@@ -1,25 +1,48 @@
-//! `bench [ROUNDS]`: the time of a translation through the proved library and through plain Rust.
+//! `bench [translations|registers] [ROUNDS]`: the time of a translation and of a register access through the proved library and
+//! through plain Rust.
 
-use bench::cases::{case, cases, Case};
-use bench::instructions::{count, COUNTED, ONCE};
-use bench::sides::{Prepared, SIDES};
+use bench::instructions::{count, ONCE};
+use bench::timing::{measure, Timed, Times, COUNTED};
+use bench::{cases, registers};
 use std::io::{self, Write};
 use std::process::ExitCode;
-use std::time::Duration;
 
 /// The rounds where no number is given.
 const ROUNDS: usize = 51;
-/// How long a round of one side takes, roughly.
-const ROUND: Duration = Duration::from_millis(5);
+
+/// A part of the benchmark.
+struct Part {
+    /// Its word on the command line.
+    word: &'static str,
+    /// Compares and times its cases, in so many rounds.
+    run: fn(usize) -> Result<(), String>,
+    /// The run under callgrind: the accesses of the case at a place once through the side with a symbol.
+    once: fn(&str, &str) -> Option<()>,
+}
+
+impl Part {
+    const fn of<C: Timed>() -> Part {
+        Part {
+            word: C::PART,
+            run: run::<C>,
+            once: once::<C>,
+        }
+    }
+}
+
+static PARTS: [Part; 2] = [
+    Part::of::<cases::Case>(),
+    Part::of::<registers::cases::Case>(),
+];
 
 fn main() -> ExitCode {
     let arguments: Vec<String> = std::env::args().skip(1).collect();
     let arguments: Vec<&str> = arguments.iter().map(String::as_str).collect();
     let done = match arguments.as_slice() {
-        [] => Some(run(ROUNDS)),
-        [rounds] => rounds.parse().ok().filter(|n| *n > 0).map(run),
-        [ONCE, place, symbol] => once(place, symbol).map(Ok),
-        _ => None,
+        [ONCE, word, place, symbol] => part(word)
+            .and_then(|at| (PARTS[at].once)(place, symbol))
+            .map(Ok),
+        _ => asked(&arguments).map(|(parts, rounds)| run_all(parts, rounds)),
     };
     match done {
         Some(Ok(())) => ExitCode::SUCCESS,
@@ -28,36 +51,58 @@ fn main() -> ExitCode {
             ExitCode::from(1)
         }
         None => {
-            let _ = writeln!(io::stderr(), "usage: bench [ROUNDS]");
+            let words = PARTS.each_ref().map(|part| part.word).join("|");
+            let _ = writeln!(io::stderr(), "usage: bench [{words}] [ROUNDS]");
             ExitCode::from(2)
         }
     }
 }
 
-/// The run under callgrind: the accesses of one case once through one side.
-fn once(place: &str, symbol: &str) -> Option<()> {
-    let case = case(place.parse().ok()?)?;
-    let (side, _) = COUNTED.iter().find(|(_, counted)| *counted == symbol)?;
-    Prepared::new(&case).run(*side, 1);
+/// The place of the part with a word.
+fn part(word: &str) -> Option<usize> {
+    PARTS.iter().position(|part| part.word == word)
+}
+
+/// The parts and the rounds that the arguments ask for.
+fn asked(arguments: &[&str]) -> Option<(&'static [Part], usize)> {
+    let (parts, rest) = match arguments.first().and_then(|word| part(word)) {
+        Some(at) => (&PARTS[at..=at], &arguments[1..]),
+        None => (&PARTS[..], arguments),
+    };
+    let rounds = match rest {
+        [] => Some(ROUNDS),
+        [rounds] => rounds.parse().ok().filter(|n| *n > 0),
+        _ => None,
+    };
+    rounds.map(|rounds| (parts, rounds))
+}
+
+fn once<C: Timed>(place: &str, symbol: &str) -> Option<()> {
+    let case = C::at(place.parse().ok()?)?;
+    let counted = case.symbols().iter().position(|one| *one == symbol)?;
+    case.run(C::SIDES[counted], 1);
     Some(())
 }
 
-fn run(rounds: usize) -> Result<(), String> {
-    let cases = cases();
-    let prepared: Vec<Prepared> = cases.iter().map(Prepared::new).collect();
-    for case in &prepared {
-        case.agree()?;
+fn run_all(parts: &[Part], rounds: usize) -> Result<(), String> {
+    for (place, part) in parts.iter().enumerate() {
+        if place > 0 {
+            say("")?;
+        }
+        (part.run)(rounds)?;
     }
-    let inputs: usize = cases.iter().map(|case| case.accesses.len()).sum();
-    say(&format!(
-        "{inputs} translations: all sides give the same answers and lists."
-    ))?;
+    Ok(())
+}
+
+fn run<C: Timed>(rounds: usize) -> Result<(), String> {
+    let cases = C::all();
+    say(&C::agree(&cases)?)?;
     let counts = instructions(&cases);
     say(&format!(
         "Now timed in {rounds} rounds over all cases, the sides of each in turn."
     ))?;
-    let times = measure(&cases, &prepared, rounds);
-    say(HEAD)?;
+    let times = measure(&cases, rounds);
+    say(C::HEAD)?;
     for (place, case) in cases.iter().enumerate() {
         let counts = counts.as_ref().ok().map(|counts| counts[place]);
         say(&row(case, &times[place], counts))?;
@@ -68,89 +113,41 @@ fn run(rounds: usize) -> Result<(), String> {
     }
 }
 
-/// The instructions of one translation of each case, by each counted side.
-fn instructions(cases: &[Case]) -> Result<Vec<[u64; COUNTED.len()]>, String> {
+/// The instructions of one access of each case, by each counted side.
+fn instructions<C: Timed>(cases: &[C]) -> Result<Vec<[u64; COUNTED]>, String> {
     let program = std::env::current_exe().map_err(|error| error.to_string())?;
-    let mut counts = vec![[0; COUNTED.len()]; cases.len()];
+    let mut counts = vec![[0; COUNTED]; cases.len()];
     for (place, case) in cases.iter().enumerate() {
-        for (side, (_, symbol)) in COUNTED.iter().enumerate() {
-            let all = count(&program, place, symbol)? as f64;
-            counts[place][side] = (all / case.accesses.len() as f64).round() as u64;
+        for (side, symbol) in case.symbols().into_iter().enumerate() {
+            let all = count(&program, C::PART, place, symbol)? as f64;
+            counts[place][side] = (all / case.accesses() as f64).round() as u64;
         }
     }
     Ok(counts)
 }
 
-/// What stands above the table's lines.
-const HEAD: &str = "
-answer: an address, or the causes of the faults (of fetches/loads/stores), or a refusal
-C call: balcumentri_translate on words that the caller keeps
-wrapper: Hart::translate_into over a translation that the caller keeps; by value: Hart::translate
-instructions: of one translation, counted by callgrind
-
-                                                 nanoseconds: median and least of the rounds   over plain Rust: median, least  instructions
-case                      answer   reads   plain Rust       C call      wrapper     by value     C call    wrapper   by value  plain C call";
-
 /// A line of the table.
-fn row(case: &Case, times: &[Times; SIDES.len()], counts: Option<[u64; COUNTED.len()]>) -> String {
-    let mut row = format!("{:<25} {:<8} {:>5}", case.name, case.outcome, case.reads);
+fn row<C: Timed>(case: &C, times: &[Times], counts: Option<[u64; COUNTED]>) -> String {
+    let mut row = case.columns();
     for Times { median, least } in times {
         row += &format!("  {median:>5.1} {least:>5.1}");
     }
     let plain = &times[0];
     for side in &times[1..] {
         let (median, least) = (side.median / plain.median, side.least / plain.least);
-        row += &format!("  {median:>4.2} {least:>4.2}");
+        row += &format!("  {} {}", ratio(median), ratio(least));
     }
     match counts {
         Some(counts) => counts.iter().for_each(|n| row += &format!("{n:>7}")),
-        None => row += &"      -".repeat(COUNTED.len()),
+        None => row += &"      -".repeat(COUNTED),
     }
     row
 }
 
-/// Nanoseconds for one translation.
-struct Times {
-    median: f64,
-    least: f64,
-}
-
-impl Times {
-    /// Those of the rounds.
-    fn of(mut rounds: Vec<f64>) -> Times {
-        rounds.sort_by(f64::total_cmp);
-        Times {
-            median: rounds[rounds.len() / 2],
-            least: rounds[0],
-        }
-    }
-}
-
-/// Times the cases: in each round every case, all its sides in turn, each round beginning with another one.
-fn measure(cases: &[Case], prepared: &[Prepared], rounds: usize) -> Vec<[Times; SIDES.len()]> {
-    let repeats: Vec<u32> = prepared.iter().map(repeats).collect();
-    let mut nanoseconds = vec![SIDES.map(|_| Vec::new()); cases.len()];
-    for round in 0..rounds {
-        for (place, case) in cases.iter().enumerate() {
-            let translations = f64::from(repeats[place]) * case.accesses.len() as f64;
-            for turn in 0..SIDES.len() {
-                let at = (round + turn) % SIDES.len();
-                let taken = prepared[place].time(SIDES[at], repeats[place], round);
-                nanoseconds[place][at].push(taken.as_nanos() as f64 / translations);
-            }
-        }
-    }
-    nanoseconds
-        .into_iter()
-        .map(|case| case.map(Times::of))
-        .collect()
-}
-
-/// How often a round goes over the accesses of a case, by the slowest side.
-fn repeats(case: &Prepared) -> u32 {
-    let slowest = SIDES.map(|side| case.time(side, 2, 0)).into_iter().max();
-    let slowest = slowest.unwrap_or(ROUND).max(Duration::from_micros(2)) / 2;
-    (ROUND.as_nanos() / slowest.as_nanos()).clamp(1, 10_000) as u32
+/// Four characters of a ratio below 100.
+fn ratio(ratio: f64) -> String {
+    let places = if ratio < 9.995 { 2 } else { 1 };
+    format!("{ratio:>4.places$}")
 }
 
 fn say(line: &str) -> Result<(), String> {

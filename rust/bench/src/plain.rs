@@ -10,8 +10,15 @@
 //! - All inner functions become one with [`translate`].
 #![allow(unsafe_code)]
 
+pub mod access;
+mod hart;
+
 use crate::call::HartWords;
 use balcumentri::{Access, Answer, Fault, Image, Kind, Read};
+use hart::{
+    passes, BARE, HGATP, MACHINE, MODE_LOW, MPP_LOW, MPRV, MPV, MSTATUS, MXR, PPN, PRIVILEGE, SATP,
+    SUM, SV39, SV48, USER, VIRTUALIZATION, VSATP, VSSTATUS,
+};
 
 /// A translation: the answer, and the entries read for it. The default one has address 0 and no entry.
 #[derive(Clone, Copy, Debug, PartialEq, Eq)]
@@ -37,81 +44,6 @@ impl Default for Translation {
         }
     }
 }
-
-// A hart's words that check 2 or the walk looks at.
-const VIRTUALIZATION: usize = 0;
-const PRIVILEGE: usize = 1;
-const PC: usize = 2;
-const STVEC: usize = 3;
-const SEPC: usize = 5;
-const SATP: usize = 8;
-const VSSTATUS: usize = 9;
-const VSTVEC: usize = 10;
-const VSEPC: usize = 12;
-const VSATP: usize = 15;
-const MSTATUS: usize = 16;
-const MEDELEG: usize = 17;
-const MIDELEG: usize = 18;
-/// mie
-const INTERRUPT_ENABLE: usize = 19;
-const MTVEC: usize = 20;
-const MEPC: usize = 22;
-/// mip
-const INTERRUPT_PENDING: usize = 25;
-const HSTATUS: usize = 28;
-const HEDELEG: usize = 29;
-const HIDELEG: usize = 30;
-const HGATP: usize = 33;
-
-// Privileges.
-const USER: u64 = 0;
-const MACHINE: u64 = 3;
-
-// Fields of the status words.
-const SIE: u64 = 1 << 1;
-const MIE: u64 = 1 << 3;
-const SPIE: u64 = 1 << 5;
-const MPIE: u64 = 1 << 7;
-const SPP: u64 = 1 << 8;
-const MPP_LOW: u32 = 11;
-const MPP: u64 = 3 << MPP_LOW;
-const MPRV: u64 = 1 << 17;
-const SUM: u64 = 1 << 18;
-const MXR: u64 = 1 << 19;
-const TVM_TW_TSR: u64 = 7 << 20;
-const GVA: u64 = 1 << 38;
-const MPV: u64 = 1 << 39;
-const UXL_64: u64 = 2 << 32;
-const SXL_64: u64 = 2 << 34;
-const HSTATUS_GVA_SPV_SPVP_HU: u64 = 0xf << 6;
-const VTVM_VTW_VTSR: u64 = 7 << 20;
-
-// What each register stores, and what its other bits read.
-const VSSTATUS_STORED: u64 = SIE | SPIE | SPP | SUM | MXR;
-const VSSTATUS_FIXED: u64 = UXL_64;
-const MSTATUS_STORED: u64 = VSSTATUS_STORED | MIE | MPIE | MPP | MPRV | TVM_TW_TSR | GVA | MPV;
-const MSTATUS_FIXED: u64 = UXL_64 | SXL_64;
-const HSTATUS_STORED: u64 = HSTATUS_GVA_SPV_SPVP_HU | VTVM_VTW_VTSR;
-const HSTATUS_FIXED: u64 = UXL_64;
-const MEDELEG_STORED: u64 = 0xf0_b7ff;
-const HEDELEG_STORED: u64 = 0xb1ff;
-/// The interrupts of S and of VS, and these with M's: what mideleg and hideleg hand down, and what mie and mip hold.
-const S_INTERRUPTS: u64 = 0x222;
-const VS_INTERRUPTS: u64 = 0x444;
-const INTERRUPTS: u64 = S_INTERRUPTS | VS_INTERRUPTS | 0x888;
-const TVEC_ZERO: u64 = 0b10;
-const EPC_ZERO: u64 = 0b11;
-const HGATP_ZERO: u64 = 3 << 58 | 0b11;
-
-// Fields of satp, vsatp and hgatp.
-const MODE_LOW: u32 = 60;
-const BARE: u64 = 0;
-const SV39: u64 = 8;
-const SV48: u64 = 9;
-const SV57: u64 = 10;
-/// A bit for each MODE that they may hold.
-const MODES: u64 = 1 << BARE | 1 << SV39 | 1 << SV48 | 1 << SV57;
-const PPN: u64 = (1 << 44) - 1;
 
 // Bits of an entry.
 const V: u64 = 1 << 0;
@@ -204,43 +136,6 @@ impl Translation {
         }
         self.answer = answer;
     }
-}
-
-/// Check 2: one word is zero where every rule of a register holds.
-#[inline(always)]
-fn passes(hart: &HartWords) -> bool {
-    let (v, privilege, mstatus) = (hart[VIRTUALIZATION], hart[PRIVILEGE], hart[MSTATUS]);
-    let no_mode = v > 1 || privilege > 3 - 2 * v || privilege == 2;
-    let mprv = mstatus & MPRV != 0 && privilege != MACHINE;
-    let mpp_is_2 = (mstatus >> 1) & !mstatus & 1 << MPP_LOW;
-    let wrong = hart[PC] & EPC_ZERO
-        | hart[STVEC] & TVEC_ZERO
-        | hart[SEPC] & EPC_ZERO
-        | (hart[VSSTATUS] & !VSSTATUS_STORED ^ VSSTATUS_FIXED)
-        | hart[VSTVEC] & TVEC_ZERO
-        | hart[VSEPC] & EPC_ZERO
-        | (mstatus & !MSTATUS_STORED ^ MSTATUS_FIXED)
-        | mpp_is_2
-        | hart[MEDELEG] & !MEDELEG_STORED
-        | (hart[MIDELEG] & !S_INTERRUPTS ^ VS_INTERRUPTS)
-        | hart[INTERRUPT_ENABLE] & !INTERRUPTS
-        | hart[MTVEC] & TVEC_ZERO
-        | hart[MEPC] & EPC_ZERO
-        | hart[INTERRUPT_PENDING] & !INTERRUPTS
-        | (hart[HSTATUS] & !HSTATUS_STORED ^ HSTATUS_FIXED)
-        | hart[HEDELEG] & !HEDELEG_STORED
-        | hart[HIDELEG] & !VS_INTERRUPTS
-        | hart[HGATP] & HGATP_ZERO
-        | wrong_mode(hart[SATP])
-        | wrong_mode(hart[VSATP])
-        | wrong_mode(hart[HGATP]);
-    !no_mode & !mprv & (wrong == 0)
-}
-
-/// 1 where satp, vsatp or hgatp has a MODE that it can't hold, else 0.
-#[inline(always)]
-fn wrong_mode(atp: u64) -> u64 {
-    !MODES >> (atp >> MODE_LOW) & 1
 }
 
 /// Check 1.

@@ -1,11 +1,11 @@
-//! The sides of the comparison: that they answer alike, and how long each takes.
+//! The sides of the comparison for translations: that they answer alike, and what is timed.
 
-use crate::call::{self, HartWords, TranslationWords, TRANSLATION_WORDS};
-use crate::cases::Case;
+use crate::call::{self, TranslationWords, TRANSLATION_WORDS};
+use crate::cases::{self, Case};
 use crate::plain;
+use crate::timing::{Timed, COUNTED};
 use balcumentri::{Access, Answer, Fault, Image, Read, Translation};
 use std::hint::black_box;
-use std::time::{Duration, Instant};
 
 /// What is timed.
 #[derive(Clone, Copy, Debug, PartialEq, Eq)]
@@ -20,78 +20,50 @@ pub enum Side {
     ByValue,
 }
 
-/// All sides, plain Rust first.
-pub const SIDES: [Side; 4] = [Side::Plain, Side::Call, Side::Wrapper, Side::ByValue];
+impl Timed for Case {
+    const PART: &'static str = "translations";
+    const HEAD: &'static str = "
+answer: an address, or the causes of the faults (of fetches/loads/stores), or a refusal
+C call: balcumentri_translate on words that the caller keeps
+wrapper: Hart::translate_into over a translation that the caller keeps; by value: Hart::translate
+instructions: of one translation, counted by callgrind
 
-/// A load waits for an earlier store whose address has the same low 12 bits. Where the stack lies to the hart's words is
-/// another matter in each run of the program, so the rounds go through this many depths of the stack, over 4096 bytes together.
-const DEPTHS: usize = 9;
+                                                 nanoseconds: median and least of the rounds   over plain Rust: median, least  instructions
+case                      answer   reads   plain Rust       C call      wrapper     by value     C call    wrapper   by value  plain C call";
+    type Side = Side;
+    const SIDES: &'static [Side] = &[Side::Plain, Side::Call, Side::Wrapper, Side::ByValue];
 
-/// Calls `run` with the stack lower, so many times 512 bytes and a little.
-#[inline(never)]
-fn lower(times: usize, run: &mut dyn FnMut()) {
-    let frame = black_box([0_u64; 64]);
-    if times == 0 {
-        run();
-    } else {
-        lower(times - 1, run);
+    fn all() -> Vec<Case> {
+        cases::cases()
     }
-    black_box(&frame);
-}
 
-/// A case with its hart's words.
-pub struct Prepared<'a> {
-    case: &'a Case,
-    words: HartWords,
-}
+    fn at(place: usize) -> Option<Case> {
+        cases::case(place)
+    }
 
-impl<'a> Prepared<'a> {
-    /// Prepares a case.
-    pub fn new(case: &'a Case) -> Self {
-        Prepared {
-            case,
-            words: call::words(&case.hart),
+    fn agree(cases: &[Case]) -> Result<String, String> {
+        for case in cases {
+            case.agree()?;
         }
+        let compared: usize = cases.iter().map(Case::accesses).sum();
+        Ok(format!(
+            "{compared} translations: all sides give the same answers and lists."
+        ))
     }
 
-    /// Whether all sides give the same answer and list for every access: the answer and as many reads as the case says.
-    pub fn agree(&self) -> Result<(), String> {
-        let case = self.case;
-        let image = case.image();
-        // kept over all accesses, so that nothing of one may stay in the next
-        let mut plain = plain::Translation::default();
-        let mut words = [!0; TRANSLATION_WORDS];
-        let mut kept = Translation::default();
-        for &access in &case.accesses {
-            plain::translate(&self.words, image, access, &mut plain);
-            call::translate(&self.words, image, access, &mut words);
-            case.hart.translate_into(image, access, &mut kept);
-            same(&plain, &words, &kept)
-                .and_then(|()| same(&plain, &words, &case.hart.translate(image, access)))
-                .map_err(|sides| format!("{}, {access:x?}: {sides}", case.name))?;
-            if plain.count != case.reads || !case.outcome.is(access.kind, plain.answer) {
-                return Err(format!(
-                    "{}, {access:x?}: not what is meant, but {plain:x?}",
-                    case.name
-                ));
-            }
-        }
-        Ok(())
+    fn columns(&self) -> String {
+        format!("{:<25} {:<8} {:>5}", self.name, self.outcome, self.reads)
     }
 
-    /// The time that a side takes for all accesses, so many times over, in a round.
-    pub fn time(&self, side: Side, times: u32, round: usize) -> Duration {
-        let mut taken = Duration::ZERO;
-        lower(round % DEPTHS, &mut || {
-            let begin = Instant::now();
-            self.run(side, times);
-            taken = begin.elapsed();
-        });
-        taken
+    fn accesses(&self) -> usize {
+        self.accesses.len()
     }
 
-    /// All accesses through a side, so many times over.
-    pub fn run(&self, side: Side, times: u32) {
+    fn symbols(&self) -> [&'static str; COUNTED] {
+        ["plain_translate", "balcumentri_translate"]
+    }
+
+    fn run(&self, side: Side, times: usize) {
         match side {
             Side::Plain => {
                 let mut kept = plain::Translation::default();
@@ -110,21 +82,47 @@ impl<'a> Prepared<'a> {
             Side::Wrapper => {
                 let mut kept = Translation::default();
                 self.each(times, |image, access| {
-                    black_box(&self.case.hart).translate_into(image, access, &mut kept);
+                    black_box(&self.hart).translate_into(image, access, &mut kept);
                     black_box(&kept);
                 });
             }
             Side::ByValue => self.each(times, |image, access| {
-                black_box(&black_box(&self.case.hart).translate(image, access));
+                black_box(&black_box(&self.hart).translate(image, access));
             }),
         }
     }
+}
+
+impl Case {
+    /// Whether all sides give the same answer and list for every access: the answer and as many reads as the case says.
+    fn agree(&self) -> Result<(), String> {
+        let image = self.image();
+        // kept over all accesses, so that nothing of one may stay in the next
+        let mut plain = plain::Translation::default();
+        let mut words = [!0; TRANSLATION_WORDS];
+        let mut kept = Translation::default();
+        for &access in &self.accesses {
+            plain::translate(&self.words, image, access, &mut plain);
+            call::translate(&self.words, image, access, &mut words);
+            self.hart.translate_into(image, access, &mut kept);
+            same(&plain, &words, &kept)
+                .and_then(|()| same(&plain, &words, &self.hart.translate(image, access)))
+                .map_err(|sides| format!("{}, {access:x?}: {sides}", self.name))?;
+            if plain.count != self.reads || !self.outcome.is(access.kind, plain.answer) {
+                return Err(format!(
+                    "{}, {access:x?}: not what is meant, but {plain:x?}",
+                    self.name
+                ));
+            }
+        }
+        Ok(())
+    }
 
     #[inline(always)]
-    fn each(&self, times: u32, mut translate: impl FnMut(Image<'_>, Access)) {
-        let image = self.case.image();
+    fn each(&self, times: usize, mut translate: impl FnMut(Image<'_>, Access)) {
+        let image = self.image();
         for _ in 0..times {
-            for access in &self.case.accesses {
+            for access in &self.accesses {
                 translate(*black_box(&image), *black_box(access));
             }
         }

@@ -1,10 +1,14 @@
 //! Plain Rust, the proved library and the second program give the same answers and lists.
 
+mod common;
+
 use balcumentri::{Access, Answer, Fault, Image, Kind, Read};
 use bench::call::{self, HartWords, TRANSLATION_WORDS};
 use bench::cases::{cases, Case, Outcome};
 use bench::plain::{self, Translation, PLACES};
-use bench::sides::{same, words_of, Prepared};
+use bench::sides::{same, words_of};
+use bench::timing::Timed;
+use common::{second_of_words, words_of_second};
 use compare::generate::script;
 use compare::program::Folder;
 use compare::rng::Rng;
@@ -48,9 +52,7 @@ fn wrapped(words: &HartWords) -> Option<balcumentri::Hart> {
 
 #[test]
 fn the_cases_are_the_walks_that_are_meant() {
-    for case in &cases() {
-        Prepared::new(case).agree().unwrap();
-    }
+    <Case as Timed>::agree(&cases()).unwrap();
 }
 
 #[test]
@@ -99,9 +101,8 @@ fn the_faults_are_those_that_are_meant() {
 #[test]
 fn the_second_program_agrees_on_the_cases() {
     for case in &cases() {
-        let hart = call::words(&case.hart);
         for (access, second) in by_second(case) {
-            let plain = checked(&hart, case.image(), access);
+            let plain = checked(&case.words, case.image(), access);
             assert_eq!(plain, walked(&second), "{}, {access:x?}", case.name);
         }
     }
@@ -109,10 +110,7 @@ fn the_second_program_agrees_on_the_cases() {
 
 /// Some accesses of a case, with their translations by the second program.
 fn by_second(case: &Case) -> Vec<(Access, Walked)> {
-    let mut hart = second::hart::Hart::new(case.hart.v(), case.hart.privilege(), case.hart.pc());
-    for (number, value) in case.hart.registers() {
-        *hart.stored_mut(number).unwrap() = value;
-    }
+    let hart = second_of_words(&case.words);
     let image = second::image::Image {
         base: case.image().base,
         bytes: case.image().bytes.to_vec(),
@@ -402,16 +400,6 @@ fn images_and_accesses_at_the_limits() {
         };
         checked(&hart, image, access);
     }
-}
-
-fn words_of_second(hart: &second::hart::Hart) -> HartWords {
-    let mut words = [0; call::HART_WORDS];
-    words[..3].copy_from_slice(&[hart.v, hart.privilege, hart.pc]);
-    for (place, word) in words[3..].iter_mut().enumerate() {
-        let number = balcumentri::number(place).unwrap();
-        *word = hart.stored(number).unwrap_or(0);
-    }
-    words
 }
 
 fn of_second(access: &walk::Access) -> Access {

@@ -8,6 +8,7 @@ pub mod bits;
 pub mod depths;
 pub mod guest;
 pub mod interrupts;
+pub mod numbers;
 pub mod words;
 
 use std::collections::BTreeMap;
@@ -25,6 +26,7 @@ use crate::coverage::bits::Bits;
 use crate::coverage::depths::Deep;
 use crate::coverage::guest::{has_mprv, Guest};
 use crate::coverage::interrupts::Interrupts;
+use crate::coverage::numbers::Numbers;
 use crate::coverage::words::Words;
 use crate::reasons::{KINDS, REASON};
 use crate::word_lines::WORD;
@@ -129,6 +131,8 @@ pub struct Coverage {
     pub guest: Guest,
     /// Depths of tables, and MODEs.
     pub deep: Deep,
+    /// Numbers of registers.
+    pub numbers: Numbers,
     /// Refusals by event word and number.
     pub refused_words: BTreeMap<(&'static str, u64), u64>,
     /// Single flipped bits.
@@ -245,6 +249,7 @@ impl Coverage {
     pub fn note(&mut self, line: &Line, met: &Before, answer: &Answer) {
         self.guest.note(line, met, answer);
         self.deep.note(line, met, answer);
+        self.numbers.note(line, met, answer);
         let before = &met.hart;
         self.instruction_words.note(line, before, answer);
         let Some(word) = event_word(line) else {
@@ -407,6 +412,7 @@ impl Coverage {
         self.instruction_words.add(&other.instruction_words);
         self.guest.add(&other.guest);
         self.deep.add(&other.deep);
+        self.numbers.add(&other.numbers);
         add(&mut self.refused_words, &other.refused_words);
         add(&mut self.flips, &other.flips);
         add(&mut self.refusals, &other.refusals);
@@ -517,6 +523,7 @@ impl Coverage {
         missing.extend(self.instruction_words.missing());
         missing.extend(self.guest.missing());
         missing.extend(self.deep.missing());
+        missing.extend(self.numbers.missing());
         if self.bad_lines == 0 {
             missing.push("a bad line".to_string());
         }
@@ -586,6 +593,7 @@ impl Coverage {
         self.instruction_words.table(text);
         self.guest.table(text);
         self.deep.table(text);
+        self.numbers.table(text);
     }
 
     fn table_of_answers(&self, text: &mut String) {
@@ -917,6 +925,9 @@ mod tests {
             "a hypervisor load or store: Loaded { form: (\"hlv\", 2, true), value: Smallest }",
             "a hypervisor load or store: Table { width: 4, stage: 2, event: \"fetch\" }",
             "bits ffffffffffffffff of VALUE as 0, by a store of 1 that is read back",
+            "of numbers: read of e13 in HS",
+            "of numbers: clear 1 of 100 in VS",
+            "of numbers: 2300 refused as 5",
             "a bad line",
         ] {
             assert!(

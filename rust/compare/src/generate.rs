@@ -7,8 +7,8 @@ use second::hart::Mode;
 use crate::coverage::Coverage;
 use crate::program::Script;
 use crate::scenes::{
-    bad, depths, edges, flips, guest, interrupts, journeys, long, refusals, registers, traps,
-    walks, words,
+    bad, depths, edges, flips, guest, interrupts, journeys, long, numbers, refusals, registers,
+    traps, walks, words,
 };
 use crate::scribe::Scribe;
 
@@ -72,6 +72,14 @@ pub fn depths_script(seed: u64, folder: &Path) -> (Script, Coverage) {
     let place = !(2 * Mode::ALL.len() as u64 + 2);
     let mut scribe = Scribe::new(script_seed(seed, place), folder.to_path_buf());
     depths::all_in_turn(&mut scribe);
+    explained(scribe)
+}
+
+/// A script with every number of a register in every mode. It always asks for reasons too.
+pub fn numbers_script(seed: u64, folder: &Path) -> (Script, Coverage) {
+    let place = !(2 * Mode::ALL.len() as u64 + 3);
+    let mut scribe = Scribe::new(script_seed(seed, place), folder.to_path_buf());
+    numbers::all_in_turn(&mut scribe);
     explained(scribe)
 }
 

@@ -8,6 +8,7 @@ pub mod guest;
 pub mod interrupts;
 pub mod journeys;
 pub mod long;
+pub mod numbers;
 pub mod refusals;
 pub mod registers;
 pub mod traps;

@@ -12,6 +12,15 @@ use crate::coverage::{Before, Coverage};
 use crate::rng::Rng;
 use crate::words::with_word;
 
+/// What this register could hold, by a value for it.
+pub fn content_of(row: &Row, value: u64) -> u64 {
+    match row.number {
+        // Some of its bits come in with the hart.
+        MIP => value & row.stored,
+        _ => after_write(row, after_write(row, 0, 0), value),
+    }
+}
+
 /// A script under construction.
 pub struct Scribe {
     /// The random numbers of this script.
@@ -157,13 +166,7 @@ impl Scribe {
 
     /// Content that this register could hold.
     pub fn content(&mut self, row: &Row) -> u64 {
-        let start = after_write(row, 0, 0);
-        let value = self.value_for(row);
-        match row.number {
-            // Some of its bits come in with the hart.
-            MIP => value & row.stored,
-            _ => after_write(row, start, value),
-        }
+        content_of(row, self.value_for(row))
     }
 
     /// A value for a write to this register: for satp, vsatp and hgatp the MODE is often one that is taken, for the registers

@@ -1,15 +1,18 @@
 //! The comparer against deliberately altered copies of the model, in this process: each must be caught, and the script that
 //! shows it shrunk to a few lines. Among them are the slips that document 01 names.
 
+use std::cmp::Ordering;
+use std::collections::BTreeSet;
 use std::io;
-use std::path::Path;
+use std::path::{Path, PathBuf};
 
 use compare::comparing::{compare, Difference, Failure, Options, FULL_RUN};
 use compare::coverage::depths;
 use compare::coverage::guest::Case;
+use compare::coverage::numbers::{self, LAST};
 use compare::coverage::Coverage;
 use compare::coverage::{ending_rules, event_word, Ended, Meeting};
-use compare::generate::{depths_script, guest_script, words_script};
+use compare::generate::{depths_script, guest_script, numbers_script, words_script};
 use compare::program::{model, Folder, InProcess, Outcome, Perform, Program, Script, Status};
 use compare::tables::sign_extended;
 use compare::words::Fields;
@@ -23,10 +26,11 @@ use second::interrupts::{self, Rule as LevelRule};
 use second::lines::LONGEST_LINE;
 use second::reasons::Reason;
 use second::registers::{
-    mpp, Wrong, HGATP, HGEIE, HGEIP, HIP, HSTATUS_GVA, HU, HVIP, MIDELEG, MIE, MIP, MPRV, MPV,
-    MSTATUS_GVA, MXR, ROWS, SATP, SIE, SIE_REGISTER, SIP, SPP, SPV, SPVP, SUM, VSATP, VSIE,
+    mpp, Level, Row, Wrong, HGATP, HGEIE, HGEIP, HIP, HSTATUS_GVA, HU, HVIP, MIDELEG, MIE, MIP,
+    MPRV, MPV, MSTATUS_GVA, MXR, ROWS, SATP, SIE, SIE_REGISTER, SIP, SPP, SPV, SPVP, SUM, VSATP,
+    VSIE,
 };
-use second::script::{Answer, Bad, Line, Session};
+use second::script::{parse, Answer, Bad, Line, Session, Writing};
 use second::trap::{
     self, deliver, deliver_to, illegal, virtual_instruction, BadRequest, Control, Ending,
     Forbidden, Refusal, Target, Trap, INTERRUPT_BIT,
@@ -2099,6 +2103,231 @@ fn copies_with_a_slip_in_depths() {
     }
 }
 
+// Copies with a slip in the lookup of a register, which change request 2026-06 asks for anew.
+
+/// The model with an access by another number.
+fn with_number(
+    session: &mut Session,
+    line: &Line,
+    other: impl Fn(u64) -> u64,
+) -> Result<Answer, Bad> {
+    let mut line = line.clone();
+    if let Line::Register { number, .. } = &mut line {
+        *number = other(*number);
+    }
+    session.perform(&line)
+}
+
+/// The model with another lookup, which gives the number of the row found. Where it finds none the access is by a number that no
+/// register has.
+fn with_lookup(
+    session: &mut Session,
+    line: &Line,
+    lookup: fn(u64) -> Option<u64>,
+) -> Result<Answer, Bad> {
+    with_number(session, line, |number| match number {
+        0..=LAST => lookup(number).unwrap_or(LAST),
+        _ => number,
+    })
+}
+
+/// The number of the first row that is so.
+fn first_row(is: impl Fn(u64) -> bool) -> Option<u64> {
+    let mut rows = ROWS.iter().map(|row| row.number);
+    rows.find(|row| is(*row))
+}
+
+/// The number of the last row that is so.
+fn last_row(is: impl Fn(u64) -> bool) -> Option<u64> {
+    let mut rows = ROWS.iter().rev().map(|row| row.number);
+    rows.find(|row| is(*row))
+}
+
+/// The row that bears a number.
+fn right_row(number: u64) -> Option<u64> {
+    first_row(|row| row == number)
+}
+
+/// The model whose lookup misses a row.
+fn missed<const ROW: u64>(session: &mut Session, line: &Line) -> Result<Answer, Bad> {
+    with_lookup(session, line, |number| {
+        right_row(number).filter(|row| *row != ROW)
+    })
+}
+
+/// The model whose lookup finds another row for one number.
+fn mistaken<const NUMBER: u64, const ROW: u64>(
+    session: &mut Session,
+    line: &Line,
+) -> Result<Answer, Bad> {
+    with_lookup(session, line, |number| match number {
+        _ if number == NUMBER => Some(ROW),
+        _ => right_row(number),
+    })
+}
+
+/// A search by halves that looks at so many rows, and leaves out so many beside each row that it looks at: below it and above it.
+fn by_halves(mut rows: &[Row], number: u64, looks: usize, left_out: [usize; 2]) -> Option<u64> {
+    for _ in 0..looks {
+        let middle = rows.len() / 2;
+        rows = match number.cmp(&rows.get(middle)?.number) {
+            Ordering::Less => &rows[..middle.saturating_sub(left_out[0])],
+            Ordering::Equal => return Some(number),
+            Ordering::Greater => rows.get(middle + 1 + left_out[1]..)?,
+        };
+    }
+    None
+}
+
+/// The rows in document 01's order: S, VS, H, M.
+fn rows_by_level() -> Vec<Row> {
+    let levels = [Level::S, Level::Vs, Level::H, Level::M];
+    let of_level = |level| ROWS.into_iter().filter(move |row| row.level == level);
+    levels.into_iter().flat_map(of_level).collect()
+}
+
+/// The first row of the same level as the one that bears a number.
+fn row_of_level(number: u64) -> Option<u64> {
+    let level = numbers::level(number)?;
+    first_row(|row| numbers::level(row) == Some(level))
+}
+
+/// The slips in the lookup.
+const NUMBER_SLIPS: [(&str, Perform); 30] = [
+    ("the first row is missed", missed::<0x100>),
+    ("the last row is missed", missed::<0xe12>),
+    ("a row in the middle is missed", missed::<0x300>),
+    ("a row that reads 0 is missed", missed::<0x607>),
+    (
+        "an unlisted number finds the row below it",
+        |session, line| with_lookup(session, line, |number| last_row(|row| row <= number)),
+    ),
+    (
+        "an unlisted number finds the row above it",
+        |session, line| with_lookup(session, line, |number| first_row(|row| row >= number)),
+    ),
+    ("0 finds the first row", mistaken::<0, 0x100>),
+    ("ff finds the first row", mistaken::<0xff, 0x100>),
+    ("301 finds the row below it", mistaken::<0x301, 0x300>),
+    ("301 finds the row above it", mistaken::<0x301, 0x302>),
+    ("345 finds the row above it", mistaken::<0x345, 0x34a>),
+    ("e13 finds the last row", mistaken::<0xe13, 0xe12>),
+    ("fff finds the last row", mistaken::<0xfff, 0xe12>),
+    ("scause finds stval", mistaken::<0x142, 0x143>),
+    ("mtval2 finds mtinst", mistaken::<0x34b, 0x34a>),
+    ("hip finds hvip", mistaken::<0x644, 0x645>),
+    ("hvip finds hip", mistaken::<0x645, 0x644>),
+    ("hgeie finds hgeip", mistaken::<0x607, 0xe12>),
+    ("hgeip finds hgeie", mistaken::<0xe12, 0x607>),
+    (
+        "every number finds the row after its own",
+        |session, line| {
+            with_lookup(session, line, |number| {
+                right_row(number).and_then(|own| first_row(|row| row > own))
+            })
+        },
+    ),
+    ("five rows are looked at", |session, line| {
+        with_lookup(session, line, |number| by_halves(&ROWS, number, 5, [0, 0]))
+    }),
+    (
+        "a search by halves leaves out a row below",
+        |session, line| with_lookup(session, line, |number| by_halves(&ROWS, number, 8, [1, 0])),
+    ),
+    (
+        "a search by halves leaves out a row above",
+        |session, line| with_lookup(session, line, |number| by_halves(&ROWS, number, 8, [0, 1])),
+    ),
+    ("the rows are in order of level", |session, line| {
+        with_lookup(session, line, |number| {
+            by_halves(&rows_by_level(), number, 8, [0, 0])
+        })
+    }),
+    ("the search goes by the level", |session, line| {
+        with_lookup(session, line, row_of_level)
+    }),
+    ("numbers are cut to 8 bits", |session, line| {
+        with_lookup(session, line, |number| {
+            first_row(|row| row & 0xff == number & 0xff)
+        })
+    }),
+    ("numbers are cut to 12 bits", |session, line| {
+        with_number(session, line, |number| number & LAST)
+    }),
+    ("numbers are cut to 32 bits", |session, line| {
+        with_number(session, line, |number| number & 0xffff_ffff)
+    }),
+    (
+        "numbers over 4095 are cut before they are looked up",
+        |session, line| {
+            with_number(session, line, |number| match number {
+                0x1000.. => right_row(number & LAST).unwrap_or(number),
+                _ => number,
+            })
+        },
+    ),
+    ("numbers over 4095 are unlisted", |session, line| {
+        with_number(session, line, |number| number.min(LAST))
+    }),
+];
+
+/// What lines answer to a hart, where other numbers are looked up.
+fn answers(hart: Hart, lines: &[Line], other: impl Fn(u64) -> u64) -> Vec<u8> {
+    let mut session = Session::new(PathBuf::new());
+    session.hart = hart;
+    let mut output = Vec::new();
+    for line in lines {
+        let answer = with_number(&mut session, line, &other).unwrap();
+        Writing::Answers.write(&mut output, line, &answer).unwrap();
+    }
+    output
+}
+
+/// Each number finds in turn each row that it does not bear, or none where it bears one: each time an access of the script with
+/// every number or the line behind it answers something else.
+#[test]
+fn every_number_that_finds_another_row() {
+    let folder = Folder::new().unwrap();
+    let (script, _) = numbers_script(42, folder.path());
+    let lines = script.lines.iter();
+    let lines: Vec<Line> = lines.map(|line| parse(line).unwrap().unwrap()).collect();
+    let mut session = Session::new(PathBuf::new());
+    let mut shown = BTreeSet::new();
+    for pair in lines.windows(2) {
+        let hart = session.hart;
+        session.perform(&pair[0]).unwrap();
+        let number = match pair[0] {
+            Line::Register { number, .. } if number <= LAST => number,
+            _ => continue,
+        };
+        let right = answers(hart, pair, |number| number);
+        for row in ROWS.iter().map(|row| row.number).chain([LAST]) {
+            let other = |of| if of == number { row } else { of };
+            if !shown.contains(&(number, row)) && answers(hart, pair, other) != right {
+                shown.insert((number, row));
+            }
+        }
+    }
+    assert_eq!(shown.len(), 4096 * ROWS.len());
+}
+
+/// The script with every number, without its reasons.
+fn numbers_without_reasons(seed: u64, folder: &Path) -> (Script, Coverage) {
+    let (mut script, coverage) = numbers_script(seed, folder);
+    script.explained = false;
+    (script, coverage)
+}
+
+/// The script with every number is part of every run: its answers alone show each slip in the lookup, and few lines do.
+#[test]
+fn copies_with_a_slip_in_the_lookup_of_a_register() {
+    shown_by(numbers_without_reasons, &NUMBER_SLIPS);
+    for (slip, perform) in NUMBER_SLIPS {
+        println!("{slip}");
+        caught(perform, 8);
+    }
+}
+
 /// It alone also reaches everything that is asked of depths, each rule that ends a translation and each length of a list.
 #[test]
 fn the_script_about_depths_reaches_all_of_them() {
@@ -2679,6 +2908,9 @@ fn a_run_reaches_everything() {
     let (part, levels, page) = (Part::HgatpForAccess, 4, 3);
     let deepest = depths::Case::RootPage { part, levels, page };
     assert!(coverage.deep.cases.remove(&deepest).is_some());
+    let (number, mode) = (0xe13, Mode::Hs);
+    let beside = numbers::Case::Read { number, mode };
+    assert!(coverage.numbers.cases.remove(&beside).is_some());
     guest.stored_bits.get_mut(&4).unwrap()[1] ^= 1 << 40;
     assert_eq!(
         coverage.missing()[3..],
@@ -2689,6 +2921,7 @@ fn a_run_reaches_everything() {
             "a hypervisor load or store: OwnTable { stage: 2 }",
             "bits 10000000000 of VALUE as 0, by a store of 4 that is read back",
             "of depths and MODEs: RootPage { part: HgatpForAccess, levels: 4, page: 3 }",
+            "of numbers: read of e13 in HS",
         ]
     );
     assert!(coverage.events >= 60_000);

@@ -866,6 +866,90 @@ const DEPTH_REASONS: &[Mutant] = &[
     ),
 ];
 
+/// In the lookup of a register by its number.
+const NUMBERS: &[Mutant] = &[
+    Mutant(
+        "registers.rs",
+        "ROWS.iter().find(|row| row.number == number)",
+        "ROWS[1..].iter().find(|row| row.number == number)",
+    ),
+    Mutant(
+        "registers.rs",
+        "ROWS.iter().find(|row| row.number == number)",
+        "ROWS[..40].iter().find(|row| row.number == number)",
+    ),
+    Mutant(
+        "registers.rs",
+        "ROWS.iter().find(|row| row.number == number)",
+        "ROWS.iter().find(|row| row.number == number && number != MSTATUS)",
+    ),
+    Mutant(
+        "registers.rs",
+        "ROWS.iter().find(|row| row.number == number)",
+        "ROWS.iter().find(|row| row.number >= number)",
+    ),
+    Mutant(
+        "registers.rs",
+        "ROWS.iter().find(|row| row.number == number)",
+        "ROWS.iter().rev().find(|row| row.number <= number)",
+    ),
+    Mutant(
+        "registers.rs",
+        "ROWS.iter().find(|row| row.number == number)",
+        "ROWS.iter().find(|row| row.number & 0xff == number & 0xff)",
+    ),
+    Mutant(
+        "registers.rs",
+        "ROWS.iter().find(|row| row.number == number)",
+        "ROWS.iter().find(|row| row.number | 1 == number | 1)",
+    ),
+    Mutant(
+        "registers.rs",
+        "ROWS.iter().find(|row| row.number == number)",
+        "ROWS.iter().find(|row| row.number == number.min(HGEIP))",
+    ),
+    Mutant(
+        "registers.rs",
+        "ROWS.iter().find(|row| row.number == number)",
+        "ROWS.iter().find(|row| row.number == number.max(SSTATUS))",
+    ),
+    Mutant(
+        "registers.rs",
+        "ROWS.iter().find(|row| row.number == number)",
+        "ROWS.iter().find(|row| row.number == number || (row.number, number) == (HGEIP, 0xe13))",
+    ),
+    Mutant(
+        "registers.rs",
+        "ROWS.iter().find(|row| row.number == number)",
+        "ROWS.iter().find(|row| row.number == number || (row.number, number) == (SSTATUS, 0xff))",
+    ),
+    Mutant(
+        "access.rs",
+        "if number > LAST_NUMBER {",
+        "if number >= LAST_NUMBER {",
+    ),
+    Mutant(
+        "access.rs",
+        "if number > LAST_NUMBER {",
+        "if number & 0xffff > LAST_NUMBER {",
+    ),
+    Mutant(
+        "access.rs",
+        "if number > LAST_NUMBER {",
+        "if number > LAST_NUMBER && find(number & LAST_NUMBER).is_none() {",
+    ),
+    Mutant(
+        "access.rs",
+        "    let mode = match hart.check() {",
+        "    let number = number & LAST_NUMBER;\n    let mode = match hart.check() {",
+    ),
+    Mutant(
+        "access.rs",
+        "    let mode = match hart.check() {",
+        "    let number = number & 0xffff_ffff;\n    let mode = match hart.check() {",
+    ),
+];
+
 fn source() -> PathBuf {
     Path::new(env!("CARGO_MANIFEST_DIR")).join("../second/src")
 }
@@ -884,6 +968,7 @@ fn every_mutant_still_fits_the_source() {
         ENTRY_FAULTS,
         DEPTHS,
         DEPTH_REASONS,
+        NUMBERS,
     ];
     for mutant in all.into_iter().flatten() {
         mutant.changed_text(&source());
@@ -1023,4 +1108,10 @@ fn every_mutant_of_depths_is_caught() {
 #[ignore = "takes minutes"]
 fn every_mutant_of_what_is_said_about_depths_is_caught() {
     check(DEPTH_REASONS, |_| false);
+}
+
+#[test]
+#[ignore = "takes minutes"]
+fn every_mutant_of_the_lookup_is_caught() {
+    check(NUMBERS, |_| true);
 }

@@ -36,20 +36,20 @@ loop-holds c =
     )
 
 array-write-places : tie.Need-array-write-places Inv-loop μ-loop
-array-write-places c = room _ _ _ _ _ _ _ (c .before .before .loop .inv .3) (c .before .loop-test .taken)
+array-write-places c = room _ _ _ _ _ _ _ (c .before .before .before .loop .inv .3) (c .before .before .loop-test .taken)
 
 returns : tie.Need-returns Inv-loop μ-loop
 returns c =
     hit _ _ _ _ _ _ _ (c .before .before .before .before .loop .inv .3) (c .before .before .before .loop-test .taken) _ (looked-at (c .before .before))
-    (sym (c .before .wide .ensures) ∙ c .if1 .taken)
+    (sym (c .before .number-of .ensures) ∙ c .if1 .taken)
 
 loop-again : tie.Need-loop-again Inv-loop μ-loop
 loop-again c = (
   omega arith,
   omega arith,
   search needs,
-  on-above _ _ _ _ _ _ _ (c .before .before .before .before .before .before .loop .inv .3) (c .before .before .before .before .before .loop-test .taken) _ (looked-at (c .before .before .before .before))
-      (omega (arith, c .before .wide2 .ensures)),
+  on-above _ _ _ _ _ _ _ (c .before .before .before .before .before .loop .inv .3) (c .before .before .before .before .loop-test .taken) _ (looked-at (c .before .before .before))
+      (omega (arith, c .before .before .number-of .ensures)),
 )
 
 loop-again-2 : tie.Need-loop-again-2 Inv-loop μ-loop
@@ -57,8 +57,8 @@ loop-again-2 c = (
   omega arith,
   omega arith,
   search needs,
-  on-below _ _ _ _ _ _ _ (c .before .before .before .before .before .before .loop .inv .3) (c .before .before .before .before .before .loop-test .taken) _ (looked-at (c .before .before .before .before))
-      (omega (arith, c .before .wide2 .ensures)),
+  on-below _ _ _ _ _ _ _ (c .before .before .before .before .before .loop .inv .3) (c .before .before .before .before .loop-test .taken) _ (looked-at (c .before .before .before))
+      (omega (arith, c .before .before .number-of .ensures)),
 )
 
 returns-2 : tie.Need-returns-2 Inv-loop μ-loop
@@ -68,5 +68,6 @@ pub halve-spec : {M : Type 1} → statement M
 halve-spec =
     tie.close
     (tie.spec
-    Inv-loop μ-loop loop-holds (λ c. omega arith) (λ c. omega arith) (λ c. omega arith) (λ c. omega arith) (λ c. omega (arith, array-write-places c)) array-write-places
-    (λ c. omega (arith, array-write-places c)) (λ c κs. search needs) returns (λ c κs. search needs) (λ c. omega arith) (λ c. omega arith) loop-again (λ c. omega arith) loop-again-2 returns-2)
+    Inv-loop μ-loop loop-holds (λ c. omega arith) (λ c. omega arith) (λ c. omega arith) (λ c. omega arith) (λ c κs. search needs)
+    (λ c. omega (arith, array-write-places c)) array-write-places (λ c. omega (arith, array-write-places c)) returns
+    (λ c. omega arith) (λ c. omega arith) loop-again (λ c. omega arith) loop-again-2 returns-2)

@@ -30,8 +30,33 @@ pub struct Register {
     down: u32,
 }
 
+impl Register {
+    /// What it reads as.
+    pub fn read(&self, hart: &Hart) -> u64 {
+        (content(hart, self.home) & self.shown & self.open(hart)) >> self.down
+    }
+
+    /// Writes a value to it.
+    pub fn write(&self, hart: &mut Hart, value: u64) {
+        let written = self.written & self.open(hart);
+        if let Some(home) = hart.stored_mut(self.home) {
+            *home = (*home & !written) | ((value << self.down) & written);
+        }
+    }
+
+    /// The bits that its gate has.
+    fn open(&self, hart: &Hart) -> u64 {
+        self.gate.map_or(u64::MAX, |gate| content(hart, gate))
+    }
+}
+
+/// What a stored register holds; 0 where none is stored.
+pub fn content(hart: &Hart, number: u64) -> u64 {
+    hart.stored(number).unwrap_or(0)
+}
+
 /// A register without a gate.
-const fn register(number: u64, home: u64, shown: u64, written: u64) -> Register {
+pub const fn register(number: u64, home: u64, shown: u64, written: u64) -> Register {
     Register {
         number,
         home,
@@ -136,14 +161,10 @@ fn possible(register: &Register) -> Sets {
 
 /// The bits of which each case came in an access that was done.
 fn come(register: &Register, before: &Hart, action: Action, accessed: &Accessed) -> Sets {
-    let content = |hart: &Hart, number| hart.stored(number).unwrap_or(0);
     let old = accessed.old;
     let home = content(before, register.home) >> register.down;
     let home_after = content(&accessed.outcome.hart, register.home) >> register.down;
-    let closed = match register.gate {
-        Some(gate) => (register.shown & !content(before, gate)) >> register.down,
-        None => 0,
-    };
+    let closed = (register.shown & !register.open(before)) >> register.down;
     let Some(value) = written(action, old) else {
         return [!old, old, home & !old, 0, 0, 0, 0, 0, 0];
     };
@@ -163,7 +184,7 @@ fn come(register: &Register, before: &Hart, action: Action, accessed: &Accessed)
 }
 
 /// The value that an access writes, if it does.
-fn written(action: Action, old: u64) -> Option<u64> {
+pub fn written(action: Action, old: u64) -> Option<u64> {
     match action {
         Action::Write(value) => Some(value),
         Action::Set {

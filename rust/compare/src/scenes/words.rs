@@ -73,7 +73,7 @@ fn goes(hart: &Hart, line: &str, cause: u64, target: Target) -> bool {
 
 /// The line of an event of this form, without its word: that of a register access with this number and this value, of a hypervisor
 /// load or store with this address and this value. A set or clear has its flag behind it.
-fn text(form: &str, number: u64, value: u64) -> String {
+pub fn text(form: &str, number: u64, value: u64) -> String {
     match form.split_once(' ') {
         Some(("hlv" | "hlvx", _)) => format!("{form} {number:x}"),
         Some(("hsv", _)) => format!("{form} {number:x} {value:x}"),
