@@ -3,13 +3,14 @@ ghost use mathlib.Core.Path.{_≡_};
 ghost use Rattle.hart.specs.Access.{read, write, set, clear};
 ghost use Rattle.hart.specs.declared.state.Hart.{Hart};
 ghost use Rattle.exports.specs.Calls.{onAccess};
+use csr::Form;
 
 // Reads the register with a number.
 #[no_mangle]
 pub extern "C" fn balcumentri_read(h: &[u64], number: u64, word: u32, out: &mut [u64]) -> u64
     ensures { λ r. ⌜ (r, now (out .exit)) ≡ onAccess (λ (x : Hart). read x number word) (now (h .entry)) (now (out .entry)) ⌝ }
 {
-    layout::put_access(layout::hart_of(h).read(number, word), h.len(), &mut *out)
+    layout::access_into(h, Form::Read, number, 0, false, word, &mut *out)
 }
 
 // Writes w to it.
@@ -23,11 +24,7 @@ pub extern "C" fn balcumentri_write(
 ) -> u64
     ensures { λ r. ⌜ (r, now (out .exit)) ≡ onAccess (λ (x : Hart). write x number w word) (now (h .entry)) (now (out .entry)) ⌝ }
 {
-    layout::put_access(
-        layout::hart_of(h).write(number, w, word),
-        h.len(),
-        &mut *out,
-    )
+    layout::access_into(h, Form::Write, number, w, true, word, &mut *out)
 }
 
 // Sets the bits of w in it, if the access writes.
@@ -42,11 +39,7 @@ pub extern "C" fn balcumentri_set(
 ) -> u64
     ensures { λ r. ⌜ (r, now (out .exit)) ≡ onAccess (λ (x : Hart). set x number w writes word) (now (h .entry)) (now (out .entry)) ⌝ }
 {
-    layout::put_access(
-        layout::hart_of(h).set(number, w, writes, word),
-        h.len(),
-        &mut *out,
-    )
+    layout::access_into(h, Form::Set, number, w, writes, word, &mut *out)
 }
 
 // Clears the bits of w in it, if the access writes.
@@ -61,9 +54,5 @@ pub extern "C" fn balcumentri_clear(
 ) -> u64
     ensures { λ r. ⌜ (r, now (out .exit)) ≡ onAccess (λ (x : Hart). clear x number w writes word) (now (h .entry)) (now (out .entry)) ⌝ }
 {
-    layout::put_access(
-        layout::hart_of(h).clear(number, w, writes, word),
-        h.len(),
-        &mut *out,
-    )
+    layout::access_into(h, Form::Clear, number, w, writes, word, &mut *out)
 }

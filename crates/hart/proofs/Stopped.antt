@@ -5,10 +5,12 @@ use Prim.Native.Nat.{ℕ}
 use Rattle.bits.specs.Field.{pick}
 use Rattle.privilege.specs.declared.Verdict.{Verdict}
 use Rattle.hart.specs.declared.state.Hart.{Hart}
+use Rattle.hart.specs.declared.event.Outcome.{Outcome}
+use Rattle.hart.specs.declared.event.Outcome.the-variants.{Done, Trapped, Refused, Interrupted}
 use Rattle.hart.specs.declared.event.Step.{Step}
 use Rattle.hart.specs.declared.event.Stop.{Stop}
 use Rattle.hart.specs.declared.event.Stop.the-variants.{Goes, Halts}
-use Rattle.hart.specs.Event.{done, refused, raised, stopOf, settledBy, settled}
+use Rattle.hart.specs.Event.{step, done, refused, raised, stopOf, settledBy, settled}
 use Rattle.hart.specs.Access.{answer}
 
 pub goes : {stop : Stop} (h : Hart) (own : ℕ) (v : Verdict) (value : ℕ) (finished : Step) → stop ≡ stopOf h own v → stop ≡ Goes → finished ≡ settled h own v value finished
@@ -21,6 +23,13 @@ unfolding settled
 halts h own v value finished e g = ap (λ (s : Stop). settledBy s h value finished) (sym g ∙ e)
 
 -- ---- a register access
+
+-- what halts is answered with 0
+pub answered : (h : Hart) (o : Outcome) {s : Step} → step h o ≡ s → record { hart = h; outcome = o; value = 0 } ≡ answer s 0
+answered h Done e = ap (λ (s : Step). answer s 0) e
+answered h (Trapped cause) e = ap (λ (s : Step). answer s 0) e
+answered h (Refused number) e = ap (λ (s : Step). answer s 0) e
+answered h (Interrupted number) e = ap (λ (s : Step). answer s 0) e
 
 pub goes-answer : {stop : Stop} (h : Hart) (own : ℕ) (v : Verdict) (value : ℕ) (next : Hart) (old : ℕ) → stop ≡ stopOf h own v → stop ≡ Goes
     → answer (done next) old ≡ answer (settled h own v value (done next)) old

@@ -7,3 +7,4 @@ pub mod Return
 pub mod Wait
 pub mod Access
 pub mod Guest
+pub mod Lent

@@ -1,6 +1,8 @@
 // What a hart holds, and check 2.
 ghost use mathlib.Core.Path.{_≡_};
 ghost use Rattle.hart.specs.Hart.{reset, context, lines, paging, passes};
+ghost use Rattle.hart.specs.Lent.{control};
+use crate::control::Control;
 use effective::Paging;
 use interrupts::Lines;
 use privilege::Context;
@@ -25,6 +27,17 @@ impl Hart {
             privilege,
             pc,
             regs: file::reset(),
+        }
+    }
+
+    // What it holds beside its registers.
+    pub fn control(self) -> Control
+        ensures { λ r. ⌜ r ≡ control self ⌝ }
+    {
+        Control {
+            v: self.v,
+            privilege: self.privilege,
+            pc: self.pc,
         }
     }
 
@@ -69,8 +82,6 @@ impl Hart {
     pub fn passes(self) -> bool
         ensures { λ r. ⌜ r ≡ passes self ⌝ }
     {
-        let c = self.context();
-        let regs = self.regs;
-        c.check(file::pass(regs), self.pc)
+        self.control().passes(&self.regs)
     }
 }

@@ -1,26 +1,44 @@
 // WFI and the fences: those that don't trap only move pc.
 ghost use mathlib.Core.Path.{_≡_};
+ghost use lib.ListN.{length};
+ghost use Rattle.registers.specs.Places.{kept};
 ghost use Rattle.hart.specs.Wait.{passing, wfi, sfenceVma, hfenceVvma, hfenceGvma};
+ghost use Rattle.hart.specs.Lent.{on, stepOn};
+use crate::control::Control;
+use crate::event;
+use crate::event::Ended;
 use crate::event::Outcome;
 use crate::event::Step;
 use crate::event::Stop;
 use crate::state::Hart;
 use privilege::Verdict;
 
+impl Control {
+    fn passing(mut self, verdict: Verdict, word: u32, regs: &mut [u64]) -> Ended
+        requires { ⌜ length (now regs) ≡ kept ⌝ }
+        ensures { λ r. ⌜ stepOn r (now (regs .exit)) ≡ passing (on self (now (regs .entry))) verdict word ⌝ }
+    {
+        let stop = event::stops(self.passes(&*regs), 0, verdict);
+        match stop {
+            Stop::Goes => {
+                self.pc = event::next(self.pc);
+                Ended {
+                    control: self,
+                    outcome: Outcome::Done,
+                }
+            }
+            Stop::Halts(refuses, number) => self.halt(refuses, number, word, &mut *regs),
+        }
+    }
+}
+
 impl Hart {
     fn passing(self, verdict: Verdict, word: u32) -> Step
         ensures { λ r. ⌜ r ≡ passing self verdict word ⌝ }
     {
-        let stop = self.stops(0, verdict);
-        match stop {
-            Stop::Goes => {
-                Step {
-                    hart: self.moved(),
-                    outcome: Outcome::Done,
-                }
-            }
-            Stop::Halts(refuses, number) => self.halt(refuses, number, word),
-        }
+        let mut regs = self.regs;
+        let e = self.control().passing(verdict, word, &mut regs);
+        e.on(regs)
     }
 
     pub fn wfi(self, word: u32) -> Step

@@ -30,7 +30,7 @@ copied-all out ws whole i j h e = rw (drop-of-length-le ws h) at e
 -- ---- a result within a longer one
 
 -- words written past the first n, up to the end
-past : (out rest : List ℕ) (n : ℕ) → length out ≡ n + length rest → drop n (sets out n rest) ≡ rest
+pub past : (out rest : List ℕ) (n : ℕ) → length out ≡ n + length rest → drop n (sets out n rest) ≡ rest
 past out rest n e =
     let h : n + length rest ≤ length out = omega arith in
     let end : length out ≤ n + length rest = omega arith in

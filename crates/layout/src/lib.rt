@@ -1,8 +1,19 @@
 // The word layout of a hart and of what an event comes to, in and out: a hart is read out of a slice, and results are written into one.
 ghost use mathlib.Core.Path.{_≡_};
+ghost use mathlib.Core.List.{_++_};
+ghost use Prim.Native.Nat.{_≤_};
+ghost use lib.ListN.{length, take, drop};
+ghost use lib.Seq.{sets};
+ghost use Rattle.registers.specs.Places.{kept};
+ghost use Rattle.hart.specs.Hart.{passes};
+ghost use Rattle.hart.specs.Event.{step};
+ghost use Rattle.hart.specs.Access.{access};
+ghost use Rattle.hart.specs.Lent.{on};
 ghost use Rattle.layout.specs.Layout.{hart-size, words, hartOf, outcomeWords, step-size, stepWords, access-size, accessWords};
 ghost use Rattle.layout.specs.Taken.{put};
+use csr::Form;
 use hart::accesses::Accessed;
+use hart::control::Control;
 use hart::event::Outcome;
 use hart::event::Step;
 use hart::state::Hart;
@@ -14,6 +25,18 @@ pub const HART: usize = 3 + places::KEPT;
 pub const STEP: usize = HART + 2;
 
 pub const ACCESS: usize = STEP + 1;
+
+// What a hart's words say beside its registers.
+fn control_of(ws: &[u64]) -> Control
+    requires { ⌜ length (now ws) ≡ hart-size ⌝ }
+    ensures { λ r. ⌜ on r (drop 3 (now (ws .entry))) ≡ hartOf (now (ws .entry)) ⌝ }
+{
+    Control {
+        v: ws[0],
+        privilege: ws[1],
+        pc: ws[2],
+    }
+}
 
 // The hart that some words say.
 pub fn hart_of(ws: &[u64]) -> Hart
@@ -33,12 +56,15 @@ pub fn hart_of(ws: &[u64]) -> Hart
         regs[i] = ws[i + 3];
         i += 1;
     }
-    Hart {
-        v: ws[0],
-        privilege: ws[1],
-        pc: ws[2],
-        regs,
-    }
+    control_of(ws).on(regs)
+}
+
+// Check 2 of the hart that some words say.
+pub fn passes(ws: &[u64]) -> bool
+    requires { ⌜ length (now ws) ≡ hart-size ⌝ }
+    ensures { λ r. ⌜ r ≡ passes (hartOf (now (ws .entry))) ⌝ }
+{
+    control_of(ws).passes(&ws[3..HART])
 }
 
 // The calls below write a result and return 0; where a length is wrong, that of the hart's slice (given) or the result's,
@@ -109,4 +135,61 @@ pub fn put_access(a: Accessed, given: usize, out: &mut [u64]) -> u64
     let outcome = a.outcome;
     out[STEP] = a.value;
     put_step(Step { hart, outcome }, given, &mut out[..STEP])
+}
+
+// A hart's words, from the first place on: two at a time, which the compiler makes one load and one store.
+fn put_words(ws: &[u64], out: &mut [u64])
+    requires { ⌜ (length (now ws) ≡ hart-size) × (hart-size ≤ length (now out)) ⌝ }
+    ensures { λ _. ⌜ now (out .exit) ≡ sets (now (out .entry)) 0 (now (ws .entry)) ⌝ }
+{
+    let mut i: usize = 0;
+    while i < HART {
+        let a = ws[i];
+        let b = ws[i + 1];
+        out[i] = a;
+        out[i + 1] = b;
+        i += 2;
+    }
+}
+
+// What an event comes to, around the registers that stand there.
+fn put_around(to: Control, outcome: Outcome, out: &mut [u64])
+    requires { ⌜ step-size ≤ length (now out) ⌝ }
+    ensures { λ _. ⌜ now (out .exit) ≡ stepWords (step (on to (take kept (drop 3 (now (out .entry))))) outcome) ++ drop step-size (now (out .entry)) ⌝ }
+{
+    let o = outcome_words(outcome);
+    out[0] = to.v;
+    out[1] = to.privilege;
+    out[2] = to.pc;
+    out[HART] = o[0];
+    out[HART + 1] = o[1];
+}
+
+// A register access on a hart's words, made where its result stands.
+pub fn access_into(
+    h: &[u64],
+    form: Form,
+    number: u64,
+    w: u64,
+    writes: bool,
+    word: u32,
+    out: &mut [u64],
+) -> u64
+    ensures { λ r. ⌜ (r, now (out .exit)) ≡ put (length (now (h .entry))) access-size (now (out .entry)) (accessWords (access (hartOf (now (h .entry))) form number w writes word)) ⌝ }
+{
+    if h.len() != HART {
+        return 1;
+    }
+    if out.len() != ACCESS {
+        return 1;
+    }
+    let passed = passes(h);
+    put_words(h, &mut *out);
+    let from = control_of(h);
+    let answer = from.access(passed, form, number, w, writes, word, &mut out[3..HART]);
+    let to = answer.control;
+    let outcome = answer.outcome;
+    out[STEP] = answer.value;
+    put_around(to, outcome, &mut *out);
+    0
 }

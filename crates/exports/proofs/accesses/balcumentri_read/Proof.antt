@@ -2,8 +2,4 @@ use Rattle.exports.proofs.accesses.balcumentri_read.Statement.{statemen
 use Rattle.exports.proofs.accesses.balcumentri_read.Tie as tie
 
 pub balcumentri-read-spec : {M : Type 1} → statement M
-balcumentri-read-spec =
-    tie.close
-    (tie.spec
-    (λ c κs. tt) (λ c κs. tt) (λ c κs. tt) (λ c. c .before .before .put-access .kept .1 .1 .0)
-    (λ c. rw (c .before .before .put-access .ensures, c .before .before .before .before .read .ensures, c .before .before .before .before .before .hart-of .ensures)))
+balcumentri-read-spec = tie.close (tie.spec (λ c κs. tt) (λ c. c .before .before .access-into .kept .1 .1 .1 .1 .1 .1 .0) (λ c. c .before .before .access-into .ensures))

@@ -1,35 +1,12 @@
-use mathlib.Core.Path.{sym, _∙_}
-use Rattle.hart.specs.Access.{access}
-use Rattle.table.proofs.Listed.{lookup-found}
 use borrow.Author.Needs.{needs}
 use Rattle.hart.proofs.state.Hart.access.Statement.{statement}
 use Rattle.hart.proofs.state.Hart.access.Tie as tie
 
+access-requires : tie.Need-access-requires
+access-requires c κs = (search needs, rw (c .before .control .ensures) (c .before .before .before .passes .ensures))
+
 returns : tie.Need-returns
-unfolding access
-returns c =
-    rw (
-      c .unlisted .ensures,
-      c .before .before .before .before .refusal .ensures,
-      sym (c .before .before .before .lookup .ensures) ∙ c .before .enum-told .given .1,
-    )
-
-access-row-requires : tie.Need-access-row-requires
-access-row-requires c κs =
-    let l = lookup-found _ _ _ (sym (c .before .before .before .lookup .ensures) ∙ c .before .found .given .1) in
-    (l .below, l .row)
-
-returns-2 : tie.Need-returns-2
-unfolding access
-returns-2 c =
-    rw (
-      c .access-row .ensures,
-      c .before .before .before .before .before .refusal .ensures,
-      sym (c .before .before .before .before .lookup .ensures) ∙ c .before .before .found .given .1,
-    )
+returns c = rw (c .on .ensures) (rw (c .before .before .before .before .before .control .ensures) at (c .before .before .before .access .ensures))
 
 pub access-spec : {M : Type 1} → statement M
-access-spec =
-    tie.close
-    (tie.spec
-    (λ c κs. search needs) (λ c κs. search needs) (λ c. search needs) (λ c. search needs) (λ c κs. search needs) returns access-row-requires returns-2)
+access-spec = tie.close (tie.spec (λ c κs. search needs) (λ c κs. search needs) (λ c. search needs) access-requires (λ c κs. search needs) returns)

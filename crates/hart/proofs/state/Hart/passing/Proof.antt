@@ -1,13 +1,10 @@
-use Rattle.hart.proofs.Stopped.{goes, halts}
+use mathlib.Core.Path.{_∙_}
 use borrow.Author.Needs.{needs}
 use Rattle.hart.proofs.state.Hart.passing.Statement.{statement}
 use Rattle.hart.proofs.state.Hart.passing.Tie as tie
 
 returns : tie.Need-returns
-returns c = rw (c .moved .ensures) (goes _ _ _ _ _ (c .before .before .before .stops .ensures) (c .before .enum-told .given .1))
-
-returns-2 : tie.Need-returns-2
-returns-2 c = rw (c .halt .ensures) (halts _ _ _ _ _ (c .before .before .before .before .stops .ensures) (c .before .before .stop .given .1))
+returns c = c .on .ensures ∙ rw (c .before .before .before .before .control .ensures) at (c .before .before .passing .ensures)
 
 pub passing-spec : {M : Type 1} → statement M
-passing-spec = tie.close (tie.spec (λ c κs. search needs) (λ c. search needs) (λ c κs. search needs) (λ c. search needs) (λ c κs. search needs) returns returns-2)
+passing-spec = tie.close (tie.spec (λ c κs. search needs) (λ c. search needs) (λ c κs. search needs) (λ c κs. search needs) returns)

@@ -1,22 +1,9 @@
-use borrow.Author.Tests.{eq-eqb, ne-eqb}
 use borrow.Author.Needs.{needs}
 use Rattle.hart.proofs.state.Hart.stops.Statement.{statement}
 use Rattle.hart.proofs.state.Hart.stops.Tie as tie
 
 returns : tie.Need-returns
-returns c = rw (rw (c .before .passes .ensures) at (c .if1 .taken))
-
-returns-2 : tie.Need-returns-2
-returns-2 c = rw (rw (c .before .before .passes .ensures) at (c .before .if1 .left), ne-eqb _ _ (c .if2 .taken))
-
-returns-3 : tie.Need-returns-3
-returns-3 c = rw (rw (c .before .before .before .passes .ensures) at (c .before .before .if1 .left), eq-eqb _ _ (c .before .if2 .left), c .if3 .taken)
-
-returns-4 : tie.Need-returns-4
-returns-4 c = rw (rw (c .before .before .before .before .passes .ensures) at (c .before .before .before .if1 .left), eq-eqb _ _ (c .before .before .if2 .left), c .before .if3 .left, c .if4 .taken)
-
-returns-5 : tie.Need-returns-5
-returns-5 c = rw (rw (c .before .before .before .before .passes .ensures) at (c .before .before .before .if1 .left), eq-eqb _ _ (c .before .before .if2 .left), c .before .if3 .left, c .if4 .left)
+returns c = c .stops .ensures (c .before .before .args .self) (c .before .passes .ensures)
 
 pub stops-spec : {M : Type 1} → statement M
-stops-spec = tie.close (tie.spec (λ c κs. search needs) returns returns-2 returns-3 returns-4 returns-5)
+stops-spec = tie.close (tie.spec (λ c κs. search needs) (λ c κs. search needs) returns)

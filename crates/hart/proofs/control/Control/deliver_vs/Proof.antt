@@ -1,7 +1,7 @@
 use Rattle.hart.specs.Deliver.{deliveredVS}
 use borrow.Author.Needs.{needs}
-use Rattle.hart.proofs.state.Hart.deliver_vs.Statement.{statement}
-use Rattle.hart.proofs.state.Hart.deliver_vs.Tie as tie
+use Rattle.hart.proofs.control.Control.deliver_vs.Statement.{statement}
+use Rattle.hart.proofs.control.Control.deliver_vs.Tie as tie
 
 returns : tie.Need-returns
 unfolding deliveredVS
@@ -12,4 +12,4 @@ deliver-vs-spec =
     tie.close
     (tie.spec
     (λ c. search needs) (λ c. search needs) (λ c κs. search needs) (λ c. search needs) (λ c. search needs) (λ c. search needs) (λ c. search needs)
-    (λ c. search needs) returns)
+    (λ c κs. search needs) (λ c. search needs) returns)

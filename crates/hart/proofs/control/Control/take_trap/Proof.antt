@@ -1,0 +1,13 @@
+use mathlib.Core.Path.{ap}
+use Rattle.hart.specs.declared.state.Hart.{Hart}
+use Rattle.hart.specs.declared.event.Outcome.the-variants.{Trapped}
+use Rattle.hart.specs.Event.{step}
+use borrow.Author.Needs.{needs}
+use Rattle.hart.proofs.control.Control.take_trap.Statement.{statement}
+use Rattle.hart.proofs.control.Control.take_trap.Tie as tie
+
+returns : tie.Need-returns
+returns c = ap (λ (h : Hart). step h (Trapped (c .before .before .before .before .before .args .t .cause))) (c .before .before .deliver .ensures)
+
+pub take-trap-spec : {M : Type 1} → statement M
+take-trap-spec = tie.close (tie.spec (λ c κs. search needs) (λ c. search needs) returns)
