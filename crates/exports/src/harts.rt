@@ -27,6 +27,6 @@ pub extern "C" fn balcumentri_passes(h: &[u64], out: &mut [u64]) -> u64
     if out.len() != 1 {
         return 1;
     }
-    out[0] = bits::select(layout::passes(h), 1, 0);
+    out[0] = bits::select(layout::hart_of(h).passes(), 1, 0);
     0
 }

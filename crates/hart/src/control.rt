@@ -2,11 +2,10 @@
 ghost use mathlib.Core.Path.{_≡_};
 ghost use lib.ListN.{length};
 ghost use Rattle.registers.specs.Places.{kept};
-ghost use Rattle.hart.specs.Hart.{context, passes};
+ghost use Rattle.hart.specs.Hart.{context};
 ghost use Rattle.hart.specs.Lent.{on};
 use crate::state::Hart;
 use privilege::Context;
-use registers::file;
 use registers::places;
 
 pub struct Control {
@@ -39,14 +38,5 @@ impl Control {
             mstatus: regs[places::MSTATUS],
             hstatus: regs[places::HSTATUS],
         }
-    }
-
-    // Check 2.
-    pub fn passes(self, regs: &[u64]) -> bool
-        requires { ⌜ length (now regs) ≡ kept ⌝ }
-        ensures { λ r. ⌜ r ≡ passes (on self (now (regs .entry))) ⌝ }
-    {
-        let c = self.context(regs);
-        c.check(file::pass(regs), self.pc)
     }
 }

@@ -69,7 +69,7 @@ impl Control {
     }
 
     // After a trap to a target.
-    pub fn deliver_to(self, to: Target, t: Exception, regs: &mut [u64]) -> Control
+    fn deliver_to(self, to: Target, t: Exception, regs: &mut [u64]) -> Control
         requires { ⌜ length (now regs) ≡ kept ⌝ }
         ensures { λ r. ⌜ on r (now (regs .exit)) ≡ deliveredTo to (on self (now (regs .entry))) t ⌝ }
     {

@@ -60,7 +60,7 @@ pub fn plain(cause: u64, value: u64) -> Exception
     }
 }
 
-// By 4, wrapping.
+// pc moved on by 4, wrapping.
 pub fn next(pc: u64) -> u64
     ensures { λ r. ⌜ r ≡ next pc ⌝ }
 {
@@ -100,7 +100,7 @@ impl Outcome {
 }
 
 impl Ended {
-    // With the registers.
+    // The step, with these registers.
     pub fn on(self, regs: [u64; places::KEPT]) -> Step
         ensures { λ r. ⌜ r ≡ stepOn self regs ⌝ }
     {
@@ -115,7 +115,7 @@ impl Ended {
 
 impl Control {
     // The trap is delivered.
-    pub fn take_trap(self, t: Exception, regs: &mut [u64]) -> Ended
+    fn take_trap(self, t: Exception, regs: &mut [u64]) -> Ended
         requires { ⌜ length (now regs) ≡ kept ⌝ }
         ensures { λ r. ⌜ stepOn r (now (regs .exit)) ≡ trapped (on self (now (regs .entry))) t ⌝ }
     {

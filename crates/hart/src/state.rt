@@ -82,6 +82,8 @@ impl Hart {
     pub fn passes(self) -> bool
         ensures { λ r. ⌜ r ≡ passes self ⌝ }
     {
-        self.control().passes(&self.regs)
+        let c = self.context();
+        let regs = self.regs;
+        c.check(file::pass(regs), self.pc)
     }
 }

@@ -2,6 +2,7 @@
 ghost use mathlib.Core.Path.{_≡_};
 ghost use lib.ListN.{length};
 ghost use Rattle.registers.specs.Places.{kept};
+ghost use Rattle.hart.specs.Hart.{passes};
 ghost use Rattle.hart.specs.Wait.{passing, wfi, sfenceVma, hfenceVvma, hfenceGvma};
 ghost use Rattle.hart.specs.Lent.{on, stepOn};
 use crate::control::Control;
@@ -14,11 +15,11 @@ use crate::state::Hart;
 use privilege::Verdict;
 
 impl Control {
-    fn passing(mut self, verdict: Verdict, word: u32, regs: &mut [u64]) -> Ended
-        requires { ⌜ length (now regs) ≡ kept ⌝ }
+    fn passing(mut self, passed: bool, verdict: Verdict, word: u32, regs: &mut [u64]) -> Ended
+        requires { ⌜ (length (now regs) ≡ kept) × (passed ≡ passes (on self (now regs))) ⌝ }
         ensures { λ r. ⌜ stepOn r (now (regs .exit)) ≡ passing (on self (now (regs .entry))) verdict word ⌝ }
     {
-        let stop = event::stops(self.passes(&*regs), 0, verdict);
+        let stop = event::stops(passed, 0, verdict);
         match stop {
             Stop::Goes => {
                 self.pc = event::next(self.pc);
@@ -36,8 +37,9 @@ impl Hart {
     fn passing(self, verdict: Verdict, word: u32) -> Step
         ensures { λ r. ⌜ r ≡ passing self verdict word ⌝ }
     {
+        let passed = self.passes();
         let mut regs = self.regs;
-        let e = self.control().passing(verdict, word, &mut regs);
+        let e = self.control().passing(passed, verdict, word, &mut regs);
         e.on(regs)
     }
 

@@ -4,7 +4,7 @@ use mathlib.Core.List.{List, [], _∷_, _++_}
 use Prim.Native.Nat.{ℕ, _+_, _-_, _≤_}
 use native.Mathlib.Omega.{arith}
 use lib.ListN.{length, take, drop, set, length-drop, length-set}
-use lib.Seq.{length-take-le, take-all, drop-append-le, take-at, drop-at, drop-drop, take-set-le, drop-set-add, sets, sets-eq}
+use lib.Seq.{length-take-le, drop-append-le, take-at, drop-at, drop-drop, take-set-le, drop-set-add, sets, sets-eq}
 use borrow.Rule.Slice.PartMut.{putMid, same-len-mid}
 use Rattle.registers.specs.Places.{kept}
 use Rattle.hart.specs.declared.accesses.Answer.{Answer}
@@ -12,10 +12,6 @@ use Rattle.hart.specs.Event.{step}
 use Rattle.hart.specs.Lent.{on, accessedOn}
 use Rattle.layout.specs.Layout.{hart-size, step-size, stepWords, access-size, accessWords}
 use Rattle.layout.proofs.Words.{past}
-
--- a hart's words behind the first three are its registers
-pub registers : (h : List ℕ) → length h ≡ hart-size → take kept (drop 3 h) ≡ drop 3 h
-registers h n = take-all kept (drop 3 h) (simp length-drop (omega arith))
 
 -- the words before and behind them
 pub around : (out : List ℕ) (v p c a b : ℕ) → step-size ≤ length out

@@ -59,14 +59,6 @@ pub fn hart_of(ws: &[u64]) -> Hart
     control_of(ws).on(regs)
 }
 
-// Check 2 of the hart that some words say.
-pub fn passes(ws: &[u64]) -> bool
-    requires { ⌜ length (now ws) ≡ hart-size ⌝ }
-    ensures { λ r. ⌜ r ≡ passes (hartOf (now (ws .entry))) ⌝ }
-{
-    control_of(ws).passes(&ws[3..HART])
-}
-
 // The calls below write a result and return 0; where a length is wrong, that of the hart's slice (given) or the result's,
 // they return 1 and write nothing.
 
@@ -183,7 +175,7 @@ pub fn access_into(
     if out.len() != ACCESS {
         return 1;
     }
-    let passed = passes(h);
+    let passed = hart_of(h).passes();
     put_words(h, &mut *out);
     let from = control_of(h);
     let answer = from.access(passed, form, number, w, writes, word, &mut out[3..HART]);

@@ -1,7 +1,5 @@
 // The registers that a hart keeps, each at its place.
 ghost use mathlib.Core.Path.{_≡_};
-ghost use lib.ListN.{length};
-ghost use Rattle.registers.specs.Places.{kept};
 ghost use Rattle.registers.specs.File.{initial, registersPass};
 use crate::masks;
 use crate::places;
@@ -20,9 +18,8 @@ pub fn reset() -> [u64; places::KEPT]
 }
 
 // Every register holds what a write could store.
-pub fn pass(r: &[u64]) -> bool
-    requires { ⌜ length (now r) ≡ kept ⌝ }
-    ensures { λ b. ⌜ b ≡ registersPass (now (r .entry)) ⌝ }
+pub fn pass(r: [u64; places::KEPT]) -> bool
+    ensures { λ b. ⌜ b ≡ registersPass r ⌝ }
 {
     let s = rules::supervisor_legal(r[places::STVEC], r[places::SEPC], r[places::SATP]);
     let vs = rules::supervisor_legal(r[places::VSTVEC], r[places::VSEPC], r[places::VSATP]);

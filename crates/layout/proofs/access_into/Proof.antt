@@ -24,16 +24,16 @@ returns-2 c = rw (out-wrong _ _ access-size (c .before .if1 .left) (c .if2 .take
 access-requires : tie.Need-access-requires
 access-requires c κs =
     let w = c .before .before .before .before in
-    let fits = w .before .before .before in
+    let fits = w .before .before .before .before in
     let args = fits .before .before .before .before .args in
     let regs = lent (now (args .h)) (now (args .out)) (fits .before .if1 .left) (omega arith) in
-    rw (w .put-words .ensures, regs) (simp length-drop (omega (arith, fits .before .if1 .left)), w .before .before .passes .ensures ∙ ap passes (sym (c .before .control-of .ensures)))
+    rw (w .put-words .ensures, regs) (simp length-drop (omega (arith, fits .before .if1 .left)), w .before .before .passes .ensures ∙ ap passes (w .before .before .before .hart-of .ensures ∙ sym (c .before .control-of .ensures)))
 
 put-around-requires : tie.Need-put-around-requires
 put-around-requires c κs =
     let a = c .before .before .before .before in
     let w = a .before .before .before .before .before in
-    let n = back-length (w .put-words .last .1 .0) (a .access .last .1 .1 .1 .1 .1 .1 .1 .0) (a .access .result) (w .put-words .kept .1 .0 ∙ w .before .before .before .if2 .left) (a .access .kept .1 .1 .1 .1 .1 .1 .1 .0) in
+    let n = back-length (w .put-words .last .1 .0) (a .access .last .1 .1 .1 .1 .1 .1 .1 .0) (a .access .result) (w .put-words .kept .1 .0 ∙ w .before .before .before .before .if2 .left) (a .access .kept .1 .1 .1 .1 .1 .1 .1 .0) in
     omega arith
 
 same-length : tie.Need-same-length
@@ -41,7 +41,7 @@ same-length c =
     let p = c .before .before in
     let a = p .before .before .before .before .before in
     let w = a .before .before .before .before .before in
-    p .put-around .kept .1 .1 .0 ∙ back-length (w .put-words .last .1 .0) (a .access .last .1 .1 .1 .1 .1 .1 .1 .0) (a .access .result) (w .put-words .kept .1 .0 ∙ w .before .before .before .if2 .left) (a .access .kept .1 .1 .1 .1 .1 .1 .1 .0) ∙ sym (w .before .before .before .if2 .left)
+    p .put-around .kept .1 .1 .0 ∙ back-length (w .put-words .last .1 .0) (a .access .last .1 .1 .1 .1 .1 .1 .1 .0) (a .access .result) (w .put-words .kept .1 .0 ∙ w .before .before .before .before .if2 .left) (a .access .kept .1 .1 .1 .1 .1 .1 .1 .0) ∙ sym (w .before .before .before .before .if2 .left)
 
 returns-3 : tie.Need-returns-3
 unfolding put
@@ -49,7 +49,7 @@ returns-3 c =
     let p = c .before .before in
     let a = p .before .before .before .before .before in
     let w = a .before .before .before .before .before in
-    let fits = w .before .before .before in
+    let fits = w .before .before .before .before in
     let args = fits .before .before .before .before .args in
     let came = rw (w .put-words .ensures, lent (now (args .h)) (now (args .out)) (fits .before .if1 .left) (omega arith), a .before .before .control-of .ensures) at (a .access .ensures) in
     rw (both-fit _ _ access-size (fits .before .if1 .left) (fits .if2 .left))
@@ -62,5 +62,5 @@ pub access-into-spec : {M : Type 1} → statement M
 access-into-spec =
     tie.close
     (tie.spec
-    returns returns-2 (λ c κs. search needs) (λ c κs. search needs) (λ c κs. search needs) (λ c. search needs) (λ c. search needs) (λ c. search needs) access-requires
+    returns returns-2 (λ c κs. search needs) (λ c κs. search needs) (λ c κs. search needs) (λ c κs. search needs) (λ c. search needs) (λ c. search needs) (λ c. search needs) access-requires
     (λ c. search needs) put-around-requires same-length returns-3)

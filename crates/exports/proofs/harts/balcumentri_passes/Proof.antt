@@ -25,11 +25,12 @@ returns-3 : tie.Need-returns-3
 unfolding put
 returns-3 c =
     rw (
-      both-fit _ _ 1 (c .before .before .before .if1 .left) (c .before .before .if2 .left),
+      both-fit _ _ 1 (c .before .before .before .before .if1 .left) (c .before .before .before .if2 .left),
       c .select .ensures,
       c .before .passes .ensures,
+      c .before .before .hart-of .ensures,
     )
-    (ap (λ (ws : List ℕ). (0, ws)) (sets-all (_ ∷ []) (now (c .before .before .before .before .before .before .args .out)) (c .before .before .if2 .left)))
+    (ap (λ (ws : List ℕ). (0, ws)) (sets-all (_ ∷ []) (now (c .before .before .before .before .before .before .before .args .out)) (c .before .before .before .if2 .left)))
 
 pub balcumentri-passes-spec : {M : Type 1} → statement M
-balcumentri-passes-spec = tie.close (tie.spec returns returns-2 (λ c κs. omega arith) (λ c κs. tt) (λ c. omega arith) same-length returns-3)
+balcumentri-passes-spec = tie.close (tie.spec returns returns-2 (λ c κs. tt) (λ c κs. tt) (λ c κs. tt) (λ c. omega arith) same-length returns-3)

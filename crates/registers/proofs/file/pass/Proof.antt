@@ -1,4 +1,6 @@
-use denote.Ref.{now}
+use mathlib.Core.Path.{_≡_}
+use lib.ListN.{length}
+use Rattle.registers.specs.Places.{kept}
 use Rattle.registers.specs.File.{registersPass}
 use Rattle.registers.proofs.Straight.{straight}
 use borrow.Author.Needs.{needs}
@@ -8,18 +10,15 @@ use Rattle.registers.proofs.file.pass.Tie as tie
 returns : tie.Need-returns
 unfolding registersPass
 returns c =
-    let m = c .before .before .before .before .before in
-    let guest = m .before .before .before .before .before .before .before .before in
-    let vs = guest .before .before in
-    let s = vs .before .before .before .before in
-    let start = s .before .before .before .before .before in
+    let regs = c .before .before .before .before .before .args .t1 in
+    let n : length regs ≡ kept = search needs in
     rw (
-      straight (now (start .args .r)) (start .pre),
+      straight regs n,
       c .hypervisor-legal .ensures,
-      m .machine-legal .ensures,
-      guest .status-legal .ensures,
-      vs .supervisor-legal2 .ensures,
-      s .supervisor-legal .ensures,
+      c .before .machine-legal .ensures,
+      c .before .before .status-legal .ensures,
+      c .before .before .before .supervisor-legal2 .ensures,
+      c .before .before .before .before .supervisor-legal .ensures,
     )
 
 pub pass-spec : {M : Type 1} → statement M
