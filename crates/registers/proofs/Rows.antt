@@ -3,10 +3,10 @@ use mathlib.Core.Path.{_≡_, refl, ap, ap₂, subst, _∙_}
 use mathlib.Core.Bool.{Bool, true, false, _&&_}
 use mathlib.Core.List.{List, [], _∷_}
 use mathlib.Core.Logic.{_↔_}
-use Prim.Native.Nat.{ℕ, suc, _+_, _-_, _^_, _<_}
+use Prim.Native.Nat.{ℕ, _+_, _-_, _^_, _<_}
 use lib.Bits.{bitOr}
 use lib.Dec.{eqb, ltb}
-use lib.ListN.{getD, take, length, List·getD-map}
+use lib.ListN.{getD, length, List·getD-map}
 use borrow.Author.Tests.{eqb-true, ltb-true}
 use Rattle.bits.specs.Field.{pick, top, bits, get, put}
 use Rattle.bits.specs.Every.{every}
@@ -117,11 +117,6 @@ reaches-writes i guest =
 
 pub counted : (length registers ≡ count) × (length rules ≡ kept)
 counted = (refl, refl)
-
--- the rows stand in rising order of number
-pub rising : every (λ i (r : Register). ltb (r .number) (at (suc i) .number)) 0 (take (count - 1) registers) ≡ true
-unfolding every
-rising = refl
 
 -- the two are one view
 abbrev pub sameView : View → View → Bool

@@ -1,17 +1,16 @@
 -- What the request asks of the search (2026-06), of any table as long as ours: how many rows it looks at, that these settle what it
 -- answers, and what it finds where the numbers rise. Assumes nothing.
 use mathlib.Core.Path.{_≡_, refl, sym, subst, ap, _∙_}
-use mathlib.Core.Logic.{_↔_, _⊎_, inl, inr}
+use mathlib.Core.Logic.{_↔_}
 use mathlib.Core.Bool.{Bool, true, false}
-use mathlib.Core.List.{List, [], _∷_, _++_}
+use mathlib.Core.List.{List, _++_}
 use Prim.Native.Nat.{ℕ, zero, suc, _+_, _-_, _<_, _≤_}
 use native.Mathlib.Omega.{arith}
 use lib.Dec.{ltb}
-use lib.ListN.{length, getD, drop, replicate, length-replicate, getD-replicate, List·getD-append, List·getD-eq-default, List·getD-map}
+use lib.ListN.{length, getD, drop, replicate, List·getD-append, List·getD-eq-default}
 use lib.Seq.{sets, sets-eq, getD-append-add}
-use borrow.Author.Tests.{ltb-true, ltb-false, lt-ltb}
+use borrow.Author.Tests.{ltb-true, ltb-false}
 use Rattle.bits.specs.Every.{every}
-use Rattle.bits.proofs.Bools.{clash}
 use Rattle.bits.proofs.Every.{every-below}
 use Rattle.registers.specs.Registers.{count}
 use Rattle.table.specs.declared.Row.{Row}
@@ -64,7 +63,7 @@ module _ (t : List Row) (n : ℕ) where
   at-most-six = omega (arith, six)
 
   -- "looks at no more than eight rows"
-  pub at-most-eight : searched t n .count ≤ looks
+  pub at-most-eight : searched t n .count ≤ 8
   at-most-eight = omega (arith, at-most-six)
 
   told-is : (k : ℕ) → told k ≡ getD looked k 0

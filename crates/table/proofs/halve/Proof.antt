@@ -1,10 +1,9 @@
-use Prim.Native.Nat.{ℕ, _+_, _-_, _≤_}
-use mathlib.Core.Path.{_≡_, refl, sym, ap, _∙_}
-use mathlib.Core.List.{List, _++_}
+use Prim.Native.Nat.{_+_, _-_, _≤_}
+use mathlib.Core.Path.{_≡_, refl, sym, _∙_}
+use mathlib.Core.List.{_++_}
 use native.Mathlib.Omega.{arith}
 use lib.ListN.{replicate, length, getD}
 use borrow.Author.Needs.{needs}
-use Rattle.table.specs.declared.Row.{Row}
 use Rattle.table.specs.Search.{looks, none, rowAt, after, halving, toldFrom}
 use Rattle.table.proofs.Halving.{middle}
 use Rattle.table.proofs.Going.{Going, room, over, hit, on-above, on-below, two-looks}

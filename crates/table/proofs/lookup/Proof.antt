@@ -1,7 +1,6 @@
-use mathlib.Core.Path.{refl, ap, _∙_}
+use mathlib.Core.Path.{refl}
 use borrow.Author.Needs.{needs}
 use Rattle.table.specs.Table.{table}
-use Rattle.table.specs.declared.Searched.{Searched}
 use Rattle.table.proofs.Looks.{finds-first, rising}
 use Rattle.table.proofs.lookup.Statement.{statement}
 use Rattle.table.proofs.lookup.Tie as tie

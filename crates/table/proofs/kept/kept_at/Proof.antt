@@ -3,7 +3,7 @@ use mathlib.Core.List.{map}
 use lib.ListN.{List·getD-map}
 use Rattle.bits.proofs.Lists.{any-default}
 use Rattle.registers.specs.Views.{no-bits}
-use Rattle.registers.specs.Registers.{Register, register, registers, at}
+use Rattle.registers.specs.Registers.{Register, register, registers}
 use borrow.Author.Needs.{needs}
 use Rattle.table.proofs.kept.kept_at.Statement.{statement}
 use Rattle.table.proofs.kept.kept_at.Tie as tie
