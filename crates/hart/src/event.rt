@@ -147,9 +147,12 @@ impl Hart {
     pub fn take_trap(self, t: Exception) -> Step
         ensures { λ r. ⌜ r ≡ trapped self t ⌝ }
     {
-        let mut regs = self.regs;
-        let e = self.control().take_trap(t, &mut regs);
-        e.on(regs)
+        let cause = t.cause;
+        let taken = self.deliver(t);
+        Step {
+            hart: taken,
+            outcome: Outcome::Trapped(cause),
+        }
     }
 
     // Whether it goes on, with its own refusal and the verdict on its instruction.
@@ -163,9 +166,13 @@ impl Hart {
     pub fn halt(self, refuses: bool, number: u64, word: u32) -> Step
         ensures { λ r. ⌜ r ≡ pick refuses (refused self number) (raised self number word) ⌝ }
     {
-        let mut regs = self.regs;
-        let e = self.control().halt(refuses, number, word, &mut regs);
-        e.on(regs)
+        if refuses {
+            return Step {
+                hart: self,
+                outcome: Outcome::Refused(number),
+            };
+        }
+        self.take_trap(plain(number, word as u64))
     }
 
     // pc moves on.

@@ -5,7 +5,6 @@ ghost use Prim.Native.Nat.{_≤_};
 ghost use lib.ListN.{length, take, drop};
 ghost use lib.Seq.{sets};
 ghost use Rattle.registers.specs.Places.{kept};
-ghost use Rattle.hart.specs.Hart.{passes};
 ghost use Rattle.hart.specs.Event.{step};
 ghost use Rattle.hart.specs.Access.{access};
 ghost use Rattle.hart.specs.Lent.{on};
