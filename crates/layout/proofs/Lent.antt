@@ -13,7 +13,7 @@ use Rattle.hart.specs.Lent.{on, accessedOn}
 use Rattle.layout.specs.Layout.{hart-size, step-size, stepWords, access-size, accessWords}
 use Rattle.layout.proofs.Words.{past}
 
--- the words before and behind them
+-- the words before and behind the registers
 pub around : (out : List ℕ) (v p c a b : ℕ) → step-size ≤ length out
     → sets (sets out 0 (v ∷ p ∷ c ∷ [])) hart-size (a ∷ b ∷ []) ≡ (v ∷ p ∷ c ∷ take kept (drop 3 out)) ++ (a ∷ b ∷ []) ++ drop step-size out
 around out v p c a b n =

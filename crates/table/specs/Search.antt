@@ -20,6 +20,7 @@ looks = 8
 abbrev pub none : Row
 none = record { number = 0; level = 0; «read_only» = false; mask = 0 }
 
+-- the row at a place of any table
 abbrev pub rowAt : List Row → ℕ → Row
 rowAt t place = getD t place none
 
@@ -32,11 +33,12 @@ rowsFrom t (suc k) first rest = rowAt t first ∷ rowsFrom t k (suc first) rest
 abbrev pub Looked : Type 0
 Looked = Found × List ℕ
 
+-- a look at a place, and those that follow it
 abbrev pub after : (place : ℕ) → Looked → Looked
 after place s = (s .0, place ∷ s .1)
 
--- among the rows from place low to before place high, with so many looks left: the middle one; if it does not bear n, those
--- above it where its number is lower, and those below it where it is not
+-- "by any means": by halves. Among the rows from place low to before place high, with so many looks left: the middle one; if it
+-- does not bear n, those above it where its number is lower, and those below it where it is not
 unfoldable pub halving : (left : ℕ) → List Row → (n low high : ℕ) → Looked
 halving zero t n low high = (Nothing, [])
 halving (suc left) t n low high =
@@ -48,11 +50,11 @@ halving (suc left) t n low high =
     (pick (ltb (row .number) n) (halving left t n (suc middle) high) (halving left t n low middle))))
     (Nothing, [])
 
--- the places after those that fill an array up to place from, the rest of it as it is
+-- "and says which places it looked at": written in their order into an array from place from on, the rest of it as it is
 abbrev pub toldFrom : (places : List ℕ) (from : ℕ) → Looked → Searched
 toldFrom places from s = record { found = s .0; places = sets places from (s .1); count = from + length (s .1) }
 
--- "The search is handed any table as long as ours": the places stand in order in an array of eight, the rest zero
+-- "The search is handed any table as long as ours": all its rows, and an array of eight zeros for the places
 unfoldable pub searched : List Row → (n : ℕ) → Searched
 searched t n = toldFrom (replicate looks 0) 0 (halving looks t n 0 count)
 

@@ -1,11 +1,13 @@
-use mathlib.Core.Path.{sym, ap, _∙_}
+use mathlib.Core.Path.{_≡_, sym, ap, _∙_}
 use mathlib.Core.List.{List}
 use Prim.Native.Nat.{ℕ}
 use native.Mathlib.Omega.{arith}
 use denote.Ref.{now}
-use lib.ListN.{length-drop}
+use lib.ListN.{length, set, length-drop}
+use borrow.Rule.Slice.PartMut.{putMid}
+use Rattle.registers.specs.Places.{kept}
 use Rattle.hart.specs.Hart.{passes}
-use Rattle.layout.specs.Layout.{access-size, accessWords}
+use Rattle.layout.specs.Layout.{step-size, access-size, accessWords}
 use Rattle.layout.specs.Taken.{put}
 use Rattle.layout.proofs.Lengths.{hart-wrong, out-wrong, both-fit}
 use Rattle.layout.proofs.Lent.{lent, back-length, answer-words}
@@ -29,19 +31,22 @@ access-requires c κs =
     let regs = lent (now (args .h)) (now (args .out)) (fits .before .if1 .left) (omega arith) in
     rw (w .put-words .ensures, regs) (simp length-drop (omega (arith, fits .before .if1 .left)), w .before .before .passes .ensures ∙ ap passes (w .before .before .before .hart-of .ensures ∙ sym (c .before .control-of .ensures)))
 
+-- with the registers back and the value written there are as many words
+still-fits : (a : tie.After-access) → let w = a .before .before .before .before .before in length (set (putMid 3 kept (w .put-words .last .1 .0) (a .access .last .1 .1 .1 .1 .1 .1 .1 .0)) step-size (a .access .result .value)) ≡ access-size
+still-fits a =
+    let w = a .before .before .before .before .before in
+    back-length (w .put-words .last .1 .0) (a .access .last .1 .1 .1 .1 .1 .1 .1 .0) (a .access .result) (w .put-words .kept .1 .0 ∙ w .before .before .before .before .if2 .left) (a .access .kept .1 .1 .1 .1 .1 .1 .1 .0)
+
 put-around-requires : tie.Need-put-around-requires
 put-around-requires c κs =
     let a = c .before .before .before .before in
-    let w = a .before .before .before .before .before in
-    let n = back-length (w .put-words .last .1 .0) (a .access .last .1 .1 .1 .1 .1 .1 .1 .0) (a .access .result) (w .put-words .kept .1 .0 ∙ w .before .before .before .before .if2 .left) (a .access .kept .1 .1 .1 .1 .1 .1 .1 .0) in
-    omega arith
+    omega (arith, still-fits a)
 
 same-length : tie.Need-same-length
 same-length c =
     let p = c .before .before in
     let a = p .before .before .before .before .before in
-    let w = a .before .before .before .before .before in
-    p .put-around .kept .1 .1 .0 ∙ back-length (w .put-words .last .1 .0) (a .access .last .1 .1 .1 .1 .1 .1 .1 .0) (a .access .result) (w .put-words .kept .1 .0 ∙ w .before .before .before .before .if2 .left) (a .access .kept .1 .1 .1 .1 .1 .1 .1 .0) ∙ sym (w .before .before .before .before .if2 .left)
+    p .put-around .kept .1 .1 .0 ∙ still-fits a ∙ sym (a .before .before .before .before .before .before .before .before .before .if2 .left)
 
 returns-3 : tie.Need-returns-3
 unfolding put

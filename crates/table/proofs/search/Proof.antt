@@ -1,8 +1,7 @@
 use mathlib.Core.Path.{_≡_, sym, _∙_}
-use mathlib.Core.List.{[], _∷_}
 use native.Mathlib.Omega.{arith}
 use borrow.Author.Needs.{needs}
-use Rattle.table.specs.Search.{looks, rowAt, after, halving, searched}
+use Rattle.table.specs.Search.{looks, after, halving, searched}
 use Rattle.table.proofs.Halving.{here, above, below}
 use Rattle.table.proofs.Parts.{two-down, quartered}
 use Rattle.table.proofs.search.Statement.{statement}
@@ -24,30 +23,26 @@ returns-2 c = two-down _ _ 21 41 31 _ (goes-up (c .before .before .before)) (her
 
 returns-3 : tie.Need-returns-3
 returns-3 c =
-    let a = c .before .before .before .before .before .before .before .before .before .before .before .before .args in
     rw (c .halve .ensures, c .before .highest .ensures)
-    (quartered (a .t1) (a .n) 21 41 31 9 32 (rowAt (a .t1) 40 ∷ []) (goes-up (c .before .before .before .before .before .before .before)) (above 6 (a .t1) (a .n) 21 41 (omega arith) (omega (arith, c .before .before .before .number-of4 .ensures))))
+    (quartered _ _ 21 41 31 9 32 _ (goes-up (c .before .before .before .before .before .before .before)) (above 6 _ _ 21 41 (omega arith) (omega (arith, c .before .before .before .number-of4 .ensures))))
 
 returns-4 : tie.Need-returns-4
 returns-4 c =
-    let a = c .before .before .before .before .before .before .before .before .before .before .before .before .args in
     rw (c .halve2 .ensures, c .before .upper .ensures)
-    (quartered (a .t1) (a .n) 21 41 31 10 21 [] (goes-up (c .before .before .before .before .before .before .before)) (below 6 (a .t1) (a .n) 21 41 (omega arith) (omega (arith, c .before .before .before .number-of4 .ensures))))
+    (quartered _ _ 21 41 31 10 21 _ (goes-up (c .before .before .before .before .before .before .before)) (below 6 _ _ 21 41 (omega arith) (omega (arith, c .before .before .before .number-of4 .ensures))))
 
 returns-5 : tie.Need-returns-5
 returns-5 c = two-down _ _ 0 20 10 _ (goes-down (c .before .before .before)) (here 6 _ _ 0 20 (omega arith) (sym (c .before .number-of5 .ensures) ∙ c .if5 .taken))
 
 returns-6 : tie.Need-returns-6
 returns-6 c =
-    let a = c .before .before .before .before .before .before .before .before .before .before .before .before .args in
     rw (c .halve3 .ensures, c .before .lower .ensures)
-    (quartered (a .t1) (a .n) 0 20 10 9 11 (rowAt (a .t1) 19 ∷ []) (goes-down (c .before .before .before .before .before .before .before)) (above 6 (a .t1) (a .n) 0 20 (omega arith) (omega (arith, c .before .before .before .number-of6 .ensures))))
+    (quartered _ _ 0 20 10 9 11 _ (goes-down (c .before .before .before .before .before .before .before)) (above 6 _ _ 0 20 (omega arith) (omega (arith, c .before .before .before .number-of6 .ensures))))
 
 returns-7 : tie.Need-returns-7
 returns-7 c =
-    let a = c .before .before .before .before .before .before .before .before .before .before .before .before .args in
     rw (c .halve4 .ensures, c .before .lowest .ensures)
-    (quartered (a .t1) (a .n) 0 20 10 10 0 [] (goes-down (c .before .before .before .before .before .before .before)) (below 6 (a .t1) (a .n) 0 20 (omega arith) (omega (arith, c .before .before .before .number-of6 .ensures))))
+    (quartered _ _ 0 20 10 10 0 _ (goes-down (c .before .before .before .before .before .before .before)) (below 6 _ _ 0 20 (omega arith) (omega (arith, c .before .before .before .number-of6 .ensures))))
 
 pub search-spec : {M : Type 1} → statement M
 search-spec =
