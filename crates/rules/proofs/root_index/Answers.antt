@@ -2,13 +2,9 @@ use mathlib.Core.Path.{◌∙◌}
 use borrow.Author.Tests.{ltb-true}
 use Rattle.rules.proofs.Indices.{small-code, root-code}
 use borrow.Author.Rules.{rules}
-use Rattle.rules.proofs.root_index.Statement.{statement}
-use Rattle.rules.proofs.root_index.Tie as tie
+use Rattle.rules.proofs.root_index.Goals as goal
 
-returns : tie.Need-returns
+pub returns : goal.returns
 returns c =
     let h = ltb-true _ _ (small-code c.args.levels c.args.address c.requires.0 c.requires.1 (search rules) ∙ c.requires.2) in
     (root-code c.args.levels c.args.address c.requires.0 c.requires.1 (search rules) h, h)
-
-pub root-index-spec : {M : Type 1} → statement M
-root-index-spec = tie.close (tie.spec (λ c. search rules) (λ c. search rules) (λ c. search rules) (λ c. search rules) returns)

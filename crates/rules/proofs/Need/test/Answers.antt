@@ -1,0 +1,14 @@
+use Rattle.rules.proofs.Masks.{test-code}
+use Rattle.rules.proofs.Need.test.Goals as goal
+
+pub returns : goal.returns
+returns c =
+    rw (
+      c.select-2.ensures,
+      c.select-u.ensures,
+      c.select.ensures,
+      c.mask-d.ensures,
+      c.mask-some.ensures,
+      c.select-read.ensures,
+      test-code c.args.self,
+    )
