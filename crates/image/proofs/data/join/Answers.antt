@@ -4,17 +4,8 @@ use Rattle.image.specs.Data.{little}
 use Rattle.image.proofs.Bytes.{joins}
 use Rattle.image.proofs.data.join.Goals as goal
 
--- LOOP abbrev invariant-loop : tie.invariant-loop
--- LOOP invariant-loop s at width x₀ left₀ x left = (left ≤ width) × (x ≡ little (take (width - left) (drop (at + left) s))) × (x < 2 ^ (8 * (width - left)))
-
--- LOOP abbrev decreases-loop : tie.decreases-loop
--- LOOP decreases-loop s at width x₀ left₀ x left = left
-
 pub loop-left-init : goal.loop-left-init
 loop-left-init c = let none : c.args.width - c.args.width ≡ 0 = omega arith in (omega arith, rw none, rw none (omega arith))
-
-pub overflow_sub-left : goal.overflow_sub-left
-overflow_sub-left c = omega arith
 
 pub overflow_mul-x : goal.overflow_mul-x
 overflow_mul-x c =
@@ -22,20 +13,11 @@ overflow_mul-x c =
     let a = c.args in
     omega (arith, l.invariant.2, pow_mono {i = 8 * (a.width - l.left)} {j = 56} (omega (arith, c.requires)))
 
-pub overflow_add-at : goal.overflow_add-at
-overflow_add-at c = omega arith
-
-pub bounds-s-at : goal.bounds-s-at
-bounds-s-at c = omega arith
-
 pub overflow_add-x : goal.overflow_add-x
 overflow_add-x c =
     let l = c.loop-left in
     let a = c.args in
     omega (arith, l.invariant.2, c.wide.ensures, pow_mono {i = 8 * (a.width - l.left)} {j = 56} (omega (arith, c.requires)))
-
-pub loop-left-smaller : goal.loop-left-smaller
-loop-left-smaller c = omega arith
 
 pub loop-left-preserved : goal.loop-left-preserved
 loop-left-preserved c =

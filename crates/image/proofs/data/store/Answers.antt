@@ -10,9 +10,6 @@ overflow_sub-address c = (within_facts _ _ _ _ c.requires).0
 pub split-requires : goal.split-requires
 split-requires c = let f = within_facts _ _ _ _ c.requires in omega (arith, f.0, f.1)
 
-pub shape_of-bytes : goal.shape_of-bytes
-shape_of-bytes c = let a = c.args in ap length c.split.ensures ∙ length-sets a.bytes-1.now (a.address - a.base) (low_bytes a.width a.value)
-
 pub returns : goal.returns
 unfolding stored
 returns c = c.split.ensures

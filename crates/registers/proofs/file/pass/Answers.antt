@@ -9,7 +9,7 @@ use Rattle.registers.proofs.file.pass.Goals as goal
 pub returns : goal.returns
 unfolding registers_pass
 returns c =
-    let regs = c.args.t1 in
+    let regs = c.args.r in
     let n : length regs ≡ kept = search rules in
     rw (
       straight regs n,
