@@ -1,5 +1,6 @@
 // An access: what it asks of each stage, and its faults.
 #![tactic(auto)]
+
 ghost use Rattle.std.specs.Prelude.{◌≡◌, true};
 ghost use Rattle.rules.specs.Kind.{by};
 ghost use Rattle.access.specs.Widths.{known, misaligned};

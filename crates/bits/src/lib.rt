@@ -1,5 +1,6 @@
 // Fields of a 64-bit word: what one holds, and the word with one changed.
 #![tactic(auto)]
+
 ghost use Rattle.std.specs.Prelude.{◌≡◌};
 ghost use Rattle.bits.specs.Field.{Fits, get, put, has, pick};
 

@@ -1,5 +1,6 @@
 // Control and status register access: what it gives and what it writes.
 #![tactic(auto)]
+
 ghost use Rattle.std.specs.Prelude.{◌≡◌, ◌<◌};
 ghost use Rattle.csr.specs.Access.{over_range, verdict, combined};
 ghost use Rattle.bits.specs.Field.{pick};

@@ -1,5 +1,6 @@
 // Where a trap goes and what pc becomes there, the cause of an environment call, and a breakpoint.
 #![tactic(auto)]
+
 ghost use Rattle.std.specs.Prelude.{◌≡◌};
 ghost use Rattle.delivery.specs.Delivery.{target, handler, call_cause, breakpoint};
 

@@ -1,5 +1,6 @@
 // What an access takes from the hart: the mode it is made in, the stages that are on, and the bits that count.
 #![tactic(auto)]
+
 ghost use Rattle.std.specs.Prelude.{◌≡◌, ◌<◌};
 ghost use Rattle.effective.specs.Effective.{effective, guest_mode, depth, root, off, first_root, second_root, in_mode, plain_access, guest_access};
 

@@ -1,5 +1,6 @@
 // The walk of an access through both stages, its list of reads written as words where the caller wants it.
 #![tactic(auto)]
+
 ghost use Rattle.std.specs.Prelude.{◌≡◌, ◌+◌, ◌-◌, ◌*◌, ◌^◌, ◌≤◌, length, replicate};
 ghost use Rattle.std.proofs.lemmas.List.Edits.{sets};
 ghost use Rattle.stages.specs.Tree.{run};

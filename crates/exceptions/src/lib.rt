@@ -1,5 +1,6 @@
 // What a trap delivers, and what a translation's fault holds: cause, value, second value, instruction word and guest-address flag.
 #![tactic(auto)]
+
 #[derive(Clone, Copy)]
 pub struct Exception {
     pub cause: u64,

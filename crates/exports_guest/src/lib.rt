@@ -1,6 +1,7 @@
 // The C face of the hypervisor loads and stores, on a hart's words. Apart from the other calls so that each object has a walk of its own: the compiler
 // then makes one piece of a translation and its walk.
 #![tactic(auto)]
+
 ghost use Rattle.std.specs.Prelude.{◌≡◌};
 ghost use Rattle.hart.specs.Guest.{hlv, hlvx, hsv};
 ghost use Rattle.hart.specs.declared.state.Hart.{Hart};

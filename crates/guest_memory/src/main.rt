@@ -2,6 +2,7 @@
 // A line for each event: its name and operands (docs/REPLAY.md), what it came to, and how many entries were read. After `trapped` stand cause, value, second
 // value and instruction word. Numbers are hexadecimal.
 #![tactic(auto)]
+
 use hart::event::Outcome;
 use hart::guest::Performed;
 use hart::state::Hart;

@@ -1,5 +1,6 @@
 // The hart, and its events as methods: each hands the next hart back.
 #![tactic(auto)]
+
 pub mod accesses;
 pub mod control;
 pub mod deliver;

@@ -1,5 +1,6 @@
 // The hypervisor loads and stores: which there are, and the walk of their access, made for the guest.
 #![tactic(auto)]
+
 ghost use Rattle.std.specs.Prelude.{◌≡◌, length};
 ghost use Rattle.walk.specs.Walked.{walked};
 ghost use Rattle.hypervisor.specs.Hypervisor.{kind_of, right_needed, offered, refusal_of, access_for, walk_for};

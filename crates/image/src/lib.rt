@@ -1,5 +1,6 @@
 // The image: a base and a lent run of bytes. A walk only reads it.
 #![tactic(auto)]
+
 ghost use Rattle.std.specs.Prelude.{◌≡◌, ◌+◌, ◌-◌, ◌^◌, ◌<◌, ◌≤◌, length};
 ghost use Rattle.image.specs.Image.{unfit, within, four, eight, entry};
 

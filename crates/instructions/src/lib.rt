@@ -1,5 +1,6 @@
 // What MRET, SRET, WFI, the fences and the hypervisor loads and stores give.
 #![tactic(auto)]
+
 ghost use Rattle.std.specs.Prelude.{◌≡◌};
 ghost use Rattle.bits.specs.Field.{Fits};
 ghost use Rattle.instructions.specs.Instructions.{illegal_with, virtual_with, mret, sret, wfi, sfence_vma, hfence_vvma, hfence_gvma, hypervisor_access};

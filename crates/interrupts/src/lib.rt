@@ -1,5 +1,6 @@
 // Which interrupt is due, and what is delivered.
 #![tactic(auto)]
+
 ghost use Rattle.std.specs.Prelude.{◌≡◌};
 ghost use Rattle.bits.specs.Field.{pick, has};
 ghost use Rattle.interrupts.specs.Interrupts.{admits, levels, order, first_of, of, first_level, chosen, written, interruption};

@@ -2,6 +2,7 @@
 // three targets of a trap. A line for each event: its name (docs/REPLAY.md), its operands but for zeros, what it came to, the
 // value answered, then V, privilege and pc. Numbers are hexadecimal.
 #![tactic(auto)]
+
 use exceptions::Exception;
 use hart::accesses::Accessed;
 use hart::event::{Outcome, Step, plain};

@@ -1,5 +1,6 @@
 // The word layout of a hart and of what an event comes to, in and out: a hart is read out of a slice, and results are written into one.
 #![tactic(auto)]
+
 ghost use Rattle.std.specs.Prelude.{◌≡◌, ◌++◌, ◌≤◌, length, take, drop};
 ghost use Rattle.std.proofs.lemmas.List.Edits.{sets};
 ghost use Rattle.registers.specs.Places.{kept};

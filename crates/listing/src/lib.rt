@@ -1,5 +1,6 @@
 // The word layout of what has a list of reads: of a translation here, the kind of access by number, the result written into a slice.
 #![tactic(auto)]
+
 ghost use Rattle.std.specs.Prelude.{◌≡◌, [], ◌∷◌, ◌++◌, length, drop};
 ghost use Rattle.std.proofs.lemmas.List.Edits.{sets};
 ghost use Rattle.listing.specs.Listing.{answer_words, translation-size, translation_words};

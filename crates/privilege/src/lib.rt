@@ -1,5 +1,6 @@
 // The five modes, and what an instruction's permission depends on.
 #![tactic(auto)]
+
 ghost use Rattle.std.specs.Prelude.{◌≡◌};
 ghost use Rattle.privilege.specs.Mode.{is_u, is_hs, is_m, is_vu, is_vs, among_five, stray_mprv, checked};
 

@@ -1,5 +1,6 @@
 // The registers: named fields, what a write stores, and those that a hart keeps at their places.
 #![tactic(auto)]
+
 pub mod fields;
 pub mod file;
 pub mod masks;

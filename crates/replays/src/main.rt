@@ -2,6 +2,7 @@
 // three levels over three. Then four over four and five over five, 24 and 35 reads, in an image of one page (2026-05).
 // Answers and reads are written as in docs/REPLAY.md.
 #![tactic(auto)]
+
 use exceptions::Exception;
 use hart::state::Hart;
 use libc::STDOUT_FILENO;

@@ -1,5 +1,6 @@
 // The rules of one page-table entry and of an address.
 #![tactic(auto)]
+
 ghost use Rattle.std.specs.Prelude.{◌≡◌, true, ◌-◌, ◌<◌, ◌≤◌};
 ghost use Rattle.bits.specs.Field.{get};
 ghost use Rattle.rules.specs.Kind.{by};

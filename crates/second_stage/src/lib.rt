@@ -1,5 +1,6 @@
 // The second stage over a guest address, its reads written as words where the caller wants them.
 #![tactic(auto)]
+
 ghost use Rattle.std.specs.Prelude.{◌≡◌, ◌+◌, ◌-◌, ◌*◌, ◌^◌, ◌<◌, ◌≤◌, length};
 ghost use Rattle.rules.specs.Test.{test_of};
 ghost use Rattle.stages.specs.Stages.{machine, look, translation};

@@ -1,5 +1,6 @@
 // The walk written out, in specs/; here the list's item. No function: walk runs it.
 #![tactic(auto)]
+
 use access::Machine;
 
 // How many places the list of reads has.

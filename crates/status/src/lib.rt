@@ -1,5 +1,6 @@
 // The status words at traps and returns.
 #![tactic(auto)]
+
 ghost use Rattle.std.specs.Prelude.{◌≡◌};
 ghost use Rattle.bits.specs.Assign.{◌after◌};
 ghost use Rattle.status.specs.Trap.{into_m, into_s, into_h};

@@ -1,5 +1,6 @@
 // A second engine for translations: it stops before each read, and keeps its place as plain data.
 #![tactic(auto)]
+
 ghost use Rattle.std.specs.Prelude.{◌≡◌, false, ◌<◌, length};
 ghost use Rattle.stages.specs.Stages.{look};
 ghost use Rattle.stages.specs.Listed.{places};

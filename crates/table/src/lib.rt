@@ -1,5 +1,6 @@
 // The table of registers, in rising order of number, and its search; where each row's bits are kept.
 #![tactic(auto)]
+
 ghost use Rattle.std.specs.Prelude.{◌≡◌, [], ◌∷◌, ◌++◌, ◌+◌, ◌≤◌, replicate};
 ghost use Rattle.registers.specs.Registers.{count};
 ghost use Rattle.table.specs.Table.{first_at, table};

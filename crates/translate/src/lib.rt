@@ -1,5 +1,6 @@
 // The translation of an access on a hart: refusals, misalignment and the walk.
 #![tactic(auto)]
+
 ghost use Rattle.std.specs.Prelude.{◌≡◌};
 ghost use Rattle.second_stage.specs.Words.{result_of};
 ghost use Rattle.translate.specs.Translated.{unsupported, start_of, answer, translated};

@@ -1,5 +1,6 @@
 // Trap requests that can't arise.
 #![tactic(auto)]
+
 ghost use Rattle.std.specs.Prelude.{◌≡◌};
 ghost use Rattle.traps.specs.Request.{is_call, is_guest_page, unknown, wrong_mode, wrong_value, never_flagged, wrong_flag, impossible};
 

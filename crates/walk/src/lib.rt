@@ -1,5 +1,6 @@
 // The walk by value: its list of reads in an array.
 #![tactic(auto)]
+
 ghost use Rattle.std.specs.Prelude.{◌≡◌, ◌+◌, ◌*◌, ◌^◌, ◌≤◌, length};
 ghost use Rattle.stages.specs.Tree.{run};
 ghost use Rattle.stages.specs.Stages.{look, walk_of};

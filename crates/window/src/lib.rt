@@ -1,5 +1,6 @@
 // The image as a window of base and bytes. Two functions take it apart and call code over the two; one makes it.
 #![tactic(auto)]
+
 ghost use Rattle.std.specs.Prelude.{◌≡◌};
 ghost use Rattle.image.specs.Image.{entry};
 ghost use Rattle.window.specs.Window.{translation};
