@@ -6,9 +6,7 @@ use Rattle.bits.specs.Every.{every}
 use Rattle.bits.specs.Field.{pick, put, top}
 use Rattle.registers.specs.Registers.{at}
 use Rattle.table.proofs.Columns.{column}
-use borrow.Author.Rules.{rules}
-use Rattle.table.proofs.kept.shows.Statement.{statement}
-use Rattle.table.proofs.kept.shows.Tie as tie
+use Rattle.table.proofs.kept.shows.Goals as goal
 
 -- as the code has it; sie's bits, hie's and sstatus's
 abbrev bits_of : ℕ → ℕ
@@ -18,11 +16,8 @@ bits_of i =
     pick (eqb i 0 || none || s || (eqb i 33 || eqb i 36 || eqb i 37))
     (pick (eqb i 0) (at 0).view.shows (pick none 0 (pick s (at 1).view.shows (at 33).view.shows))) top
 
-returns : tie.Need-returns
+pub returns : goal.returns
 unfolding every put
 returns c =
-    rw (c.select4.ensures, c.before.select3.ensures, c.before.before.select2.ensures, c.before.before.before.select.ensures)
-    (column bits_of (λ i. (at i).view.shows) refl c.before.before.before.before.args.row c.before.before.before.before.requires)
-
-pub shows-spec : {M : Type 1} → statement M
-shows-spec = tie.close (tie.spec (λ c κs. search rules) (λ c κs. search rules) (λ c κs. search rules) (λ c κs. search rules) returns)
+    rw (c.select-2.ensures, c.select-some.ensures, c.select.ensures, c.select-interrupts.ensures)
+    (column bits_of (λ i. (at i).view.shows) refl c.args.row c.requires)

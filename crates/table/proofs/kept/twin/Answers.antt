@@ -9,19 +9,14 @@ use Rattle.registers.specs.Registers.{count, registers}
 use Rattle.table.specs.Table.{twin_row}
 use Rattle.table.proofs.Columns.{column}
 use borrow.Author.Tests.{lt-ltb, le-ltb}
-use borrow.Author.Rules.{rules}
-use Rattle.table.proofs.kept.twin.Statement.{statement}
-use Rattle.table.proofs.kept.twin.Tie as tie
+use Rattle.table.proofs.kept.twin.Goals as goal
 
 twins : (row : ℕ) → row < count → pick (ltb row 9) (row + 9) row ≡ get_or (map twin_row registers) row 0
 unfolding every
 twins row h = column (λ i. pick (ltb i 9) (i + 9) i) (λ i. get_or (map twin_row registers) i 0) refl row h
 
-returns : tie.Need-returns
-returns c = rw (lt-ltb _ _ c.if1.true) at (twins c.before.args.row c.before.requires)
+pub returns-then-row-lt-S_ROWS : goal.returns-then-row-lt-S_ROWS
+returns-then-row-lt-S_ROWS c = rw (lt-ltb _ _ c.if-row-lt-S_ROWS.true) at (twins c.args.row c.requires)
 
-returns-2 : tie.Need-returns-2
-returns-2 c = rw (le-ltb _ _ c.if1.false) at (twins c.before.args.row c.before.requires)
-
-pub twin-spec : {M : Type 1} → statement M
-twin-spec = tie.close (tie.spec (λ c. search rules) returns returns-2)
+pub returns : goal.returns
+returns c = rw (le-ltb _ _ c.if-row-lt-S_ROWS.false) at (twins c.args.row c.requires)

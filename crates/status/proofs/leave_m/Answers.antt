@@ -1,0 +1,15 @@
+use Rattle.status.proofs.leave_m.Goals as goal
+
+pub returns : goal.returns
+returns c =
+    rw (
+      c.put-5.ensures,
+      c.put-4.ensures,
+      c.put-3.ensures,
+      c.put-2.ensures,
+      c.put.ensures,
+      c.get-3.ensures,
+      c.select-mprv.ensures,
+      c.get-2.ensures,
+      c.get.ensures,
+    )

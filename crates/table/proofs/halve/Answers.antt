@@ -1,0 +1,61 @@
+use Prim.Native.Nat.{◌+◌, ◌-◌, ◌≤◌}
+use mathlib.Core.Path.{◌≡◌, refl, sym, ◌∙◌}
+use mathlib.Core.List.{◌++◌}
+use native.Mathlib.Omega.{arith}
+use lib.ListN.{replicate, length, get_or}
+use borrow.Author.Rules.{rules}
+use Rattle.table.specs.Search.{looks, none, row_at, after, halving, told_from}
+use Rattle.table.proofs.Halving.{middle}
+use Rattle.table.proofs.Going.{Going, room, over, hit, on-above, on_below, two_looks}
+use Rattle.table.proofs.Parts.{part_at}
+use Rattle.table.proofs.halve.Goals as goal
+
+-- the row looked at, where it stands in the table
+looked-at : (c : tie.After-row invariant-loop decreases-loop) → let a = c.args in let m = middle c.loop-low.low c.loop-low.high in row_at (replicate a.first none ++ a.t1) m ≡ get_or a.t1 (m - a.first) none
+looked-at c =
+    let a = c.args in
+    part_at a.t1 a.first (middle c.loop-low.low c.loop-low.high) (omega arith)
+
+pub loop-low-init : goal.loop-low-init
+loop-low-init c =
+    let a = c.args in (
+      omega arith,
+      omega arith,
+      search rules,
+      record { at_most = omega arith; long = refl; covered = omega arith; told = two_looks 20 a.half (halving 6 (replicate a.first none ++ a.t1) a.n a.first a.end) },
+    )
+
+pub offset_bounds-places-looked : goal.offset_bounds-places-looked
+offset_bounds-places-looked c = omega (arith, array-write-places c)
+
+pub bounds-places-looked : goal.bounds-places-looked
+bounds-places-looked c = room _ _ _ _ _ _ _ c.loop-low.invariant.3 c.loop-low-test.true
+
+pub overflow_add-looked : goal.overflow_add-looked
+overflow_add-looked c = omega (arith, array-write-places c)
+
+pub returns-then-number-n : goal.returns-then-number-n
+returns-then-number-n c =
+    hit _ _ _ _ _ _ _ c.loop-low.invariant.3 c.loop-low-test.true _ (looked-at c)
+    (sym c.number_of-number.ensures ∙ c.if-number-n.true)
+
+pub loop-low-preserved-then-number-n-2 : goal.loop-low-preserved-then-number-n-2
+loop-low-preserved-then-number-n-2 c = (
+  omega arith,
+  omega arith,
+  search rules,
+  on-above _ _ _ _ _ _ _ c.loop-low.invariant.3 c.loop-low-test.true _ (looked-at c)
+      (omega (arith, c.number_of-number.ensures)),
+)
+
+pub loop-low-preserved : goal.loop-low-preserved
+loop-low-preserved c = (
+  omega arith,
+  omega arith,
+  search rules,
+  on_below _ _ _ _ _ _ _ c.loop-low.invariant.3 c.loop-low-test.true _ (looked-at c)
+      (omega (arith, c.number_of-number.ensures)),
+)
+
+pub returns : goal.returns
+returns c = over _ _ _ _ _ _ _ c.loop-low.invariant.3 c.loop-low-test.false
