@@ -8,13 +8,14 @@ use Rattle.table.specs.Search.{looks, none, row_at, after, halving, told_from}
 use Rattle.table.proofs.Halving.{middle}
 use Rattle.table.proofs.Going.{Going, room, over, hit, on-above, on_below, two_looks}
 use Rattle.table.proofs.Parts.{part_at}
+use Rattle.table.proofs.halve.Goals.{After-row-1}
 use Rattle.table.proofs.halve.Goals as goal
 
 -- the row looked at, where it stands in the table
-looked-at : (c : tie.After-row invariant-loop decreases-loop) → let a = c.args in let m = middle c.loop-low.low c.loop-low.high in row_at (replicate a.first none ++ a.t1) m ≡ get_or a.t1 (m - a.first) none
+looked-at : (c : After-row-1) → let a = c.args in let m = middle c.loop-low.low c.loop-low.high in row_at (replicate a.first none ++ a.rows) m ≡ get_or a.rows (m - a.first) none
 looked-at c =
     let a = c.args in
-    part_at a.t1 a.first (middle c.loop-low.low c.loop-low.high) (omega arith)
+    part_at a.rows a.first (middle c.loop-low.low c.loop-low.high) (omega arith)
 
 pub loop-low-init : goal.loop-low-init
 loop-low-init c =
@@ -22,21 +23,21 @@ loop-low-init c =
       omega arith,
       omega arith,
       search rules,
-      record { at_most = omega arith; long = refl; covered = omega arith; told = two_looks 20 a.half (halving 6 (replicate a.first none ++ a.t1) a.n a.first a.end) },
+      record { at_most = omega arith; long = refl; covered = omega arith; told = two_looks 20 a.half (halving 6 (replicate a.first none ++ a.rows) a.n a.first a.end) },
     )
 
 pub offset_bounds-places-looked : goal.offset_bounds-places-looked
-offset_bounds-places-looked c = omega (arith, array-write-places c)
+offset_bounds-places-looked c = omega (arith, room _ _ _ _ _ _ _ c.loop-low.invariant.3 c.loop-low-test.true)
 
 pub bounds-places-looked : goal.bounds-places-looked
 bounds-places-looked c = room _ _ _ _ _ _ _ c.loop-low.invariant.3 c.loop-low-test.true
 
 pub overflow_add-looked : goal.overflow_add-looked
-overflow_add-looked c = omega (arith, array-write-places c)
+overflow_add-looked c = omega (arith, room _ _ _ _ _ _ _ c.loop-low.invariant.3 c.loop-low-test.true)
 
 pub returns-then-number-n : goal.returns-then-number-n
 returns-then-number-n c =
-    hit _ _ _ _ _ _ _ c.loop-low.invariant.3 c.loop-low-test.true _ (looked-at c)
+    hit _ _ _ _ _ _ _ c.loop-low.invariant.3 c.loop-low-test.true _ (looked-at (goal.at.returns-then-number-n c).After-row-1)
     (sym c.number_of-number.ensures ∙ c.if-number-n.true)
 
 pub loop-low-preserved-then-number-n-2 : goal.loop-low-preserved-then-number-n-2
@@ -44,7 +45,7 @@ loop-low-preserved-then-number-n-2 c = (
   omega arith,
   omega arith,
   search rules,
-  on-above _ _ _ _ _ _ _ c.loop-low.invariant.3 c.loop-low-test.true _ (looked-at c)
+  on-above _ _ _ _ _ _ _ c.loop-low.invariant.3 c.loop-low-test.true _ (looked-at (goal.at.loop-low-preserved-then-number-n-2 c).After-row-1)
       (omega (arith, c.number_of-number.ensures)),
 )
 
@@ -53,7 +54,7 @@ loop-low-preserved c = (
   omega arith,
   omega arith,
   search rules,
-  on_below _ _ _ _ _ _ _ c.loop-low.invariant.3 c.loop-low-test.true _ (looked-at c)
+  on_below _ _ _ _ _ _ _ c.loop-low.invariant.3 c.loop-low-test.true _ (looked-at (goal.at.loop-low-preserved c).After-row-1)
       (omega (arith, c.number_of-number.ensures)),
 )
 

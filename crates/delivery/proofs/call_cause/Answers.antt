@@ -1,0 +1,13 @@
+use Rattle.std.proofs.Common.{rules}
+use Rattle.delivery.proofs.call_cause.Goals as goal
+
+pub returns : goal.returns
+returns c =
+    rw (
+      c.select-2.ensures,
+      c.select.ensures,
+      c.is_vs.ensures,
+      c.is_m.ensures,
+      c.select-other.ensures,
+      c.is_hs.ensures,
+    )

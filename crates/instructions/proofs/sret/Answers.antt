@@ -1,0 +1,4 @@
+use Rattle.instructions.proofs.sret.Goals as goal
+
+pub returns : goal.returns
+returns c = rw (c.virtual_with.ensures, c.illegal_with.ensures)

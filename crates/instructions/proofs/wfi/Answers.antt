@@ -1,0 +1,4 @@
+use Rattle.instructions.proofs.wfi.Goals as goal
+
+pub returns : goal.returns
+returns c = rw (c.virtual_with.ensures, c.is_u.ensures, c.get.ensures, c.is_m.ensures)
