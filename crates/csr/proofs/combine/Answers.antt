@@ -1,7 +1,7 @@
 use Rattle.csr.proofs.combine.Goals as goal
 
 pub returns-in-Set : goal.returns-in-Set
-returns-in-Set c = rw c.enum_told-in-Set-1.given.1
+returns-in-Set c = rw c.in-Set.is
 
 pub returns-in-Clear : goal.returns-in-Clear
-returns-in-Clear c = rw c.enum_told-in-Clear-1.given.1
+returns-in-Clear c = rw c.in-Clear.is

@@ -1,4 +1,4 @@
 use Rattle.effective.proofs.guest_access.Goals as goal
 
 pub returns : goal.returns
-returns c = rw (c.hart_in_mode.ensures, c.guest_mode.ensures)
+returns c = rw (c.in_mode.ensures, c.guest_mode.ensures)

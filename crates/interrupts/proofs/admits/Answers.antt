@@ -1,7 +1,7 @@
 use Rattle.interrupts.proofs.admits.Goals as goal
 
 pub returns-in-M : goal.returns-in-M
-returns-in-M c = rw (c.get.ensures, c.is_m.ensures, c.enum_told-1.given.1)
+returns-in-M c = rw (c.get.ensures, c.is_m.ensures, c.in-M.is)
 
 pub returns-in-HS : goal.returns-in-HS
 returns-in-HS c =
@@ -11,8 +11,8 @@ returns-in-HS c =
       c.is_vs.ensures,
       c.is_vu.ensures,
       c.is_u.ensures,
-      c.enum_told-in-HS-1.given.1,
+      c.in-HS.is,
     )
 
 pub returns-in-VS : goal.returns-in-VS
-returns-in-VS c = rw (c.get-in-VS.ensures, c.is_vs-in-VS.ensures, c.is_vu-in-VS.ensures, c.enum_told-in-VS-1.given.1)
+returns-in-VS c = rw (c.get-in-VS.ensures, c.is_vs-in-VS.ensures, c.is_vu-in-VS.ensures, c.in-VS.is)
