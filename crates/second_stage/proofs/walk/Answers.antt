@@ -1,0 +1,65 @@
+use mathlib.Core.Path.{sym, ◌∙◌}
+use native.Mathlib.Omega.{arith}
+use borrow.Author.Tests.{not-true, not-false}
+use Rattle.stages.specs.Stages.{look, machine}
+use Rattle.second_stage.specs.Words.{Sees}
+use Rattle.second_stage.proofs.Descents.{Descends, off, too_large, from-root, outside, bad, leaf, bounds, further}
+use Rattle.second_stage.proofs.walk.Goals.{In-Entry}
+use Rattle.second_stage.proofs.walk.Goals as goal
+
+-- the entry that was read, and what it is
+sees : (k : In-Entry) → let a = k.args in
+    let l = k.loop-j in
+    Sees (look a.base a.bytes.now) k.test-t.result 2 l.level a.guest.0 (machine l.at) l.next l.out k.inspect-seen.new.out k.in-Entry.j
+sees k = rw k.in-Entry.is at k.inspect-seen.ensures
+
+pub returns-then-levels-eq0 : goal.returns-then-levels-eq0
+returns-then-levels-eq0 c =
+    let a = c.args in
+    rw c.passed.ensures (off (look a.base a.bytes.now) a.a a.left a.guest a.out.now a.from c.if-levels-eq0.true)
+
+pub returns-then-not-is_small : goal.returns-then-not-is_small
+returns-then-not-is_small c =
+    let a = c.args in
+    rw c.fault.ensures
+    (too_large (look a.base a.bytes.now) a.a a.left a.guest a.out.now a.from (omega (arith, c.if-levels-eq0.false)) (sym c.is_small.ensures ∙ c.if-not-is_small.true))
+
+pub root_index-requires : goal.root_index-requires
+root_index-requires c = (omega (arith, c.if-levels-eq0.false), c.requires.2.second, sym c.is_small.ensures ∙ c.if-not-is_small.false)
+
+pub loop-j-init : goal.loop-j-init
+loop-j-init c =
+    let a = c.args in
+    from-root (look a.base a.bytes.now) a.a a.left a.guest a.out.now a.from (omega (arith, c.if-levels-eq0.false))
+    (sym c.is_small.ensures ∙ c.if-not-is_small.false) c.requires.3 c.root_index.result c.root_index.ensures.0
+
+pub inspect-seen-requires : goal.inspect-seen-requires
+inspect-seen-requires c =
+    (c.requires.0, c.requires.1, omega (arith, c.loop-j.invariant.under, c.requires.2.second), omega (arith, c.loop-j.invariant.room))
+
+pub returns-in_default : goal.returns-in_default
+returns-in_default c = rw c.access_fault.ensures (outside c.loop-j.invariant (rw c.in_default.is at c.inspect-seen.ensures))
+
+pub overflow_add-next : goal.overflow_add-next
+overflow_add-next c = omega (arith, c.loop-j.invariant.room, c.loop-j.invariant.size)
+
+pub returns-in-Bad : goal.returns-in-Bad
+returns-in-Bad c = rw c.fault-in-Bad.ensures (bad c.loop-j.invariant c.test-t.ensures (sees (goal.at.returns-in-Bad c).In-Entry) c.in-Bad.is)
+
+pub returns-in-Leaf : goal.returns-in-Leaf
+returns-in-Leaf c = leaf c.loop-j.invariant c.test-t.ensures (sees (goal.at.returns-in-Leaf c).In-Entry) c.in-Leaf.is
+
+pub overflow_sub-level-in-Pointer : goal.overflow_sub-level-in-Pointer
+overflow_sub-level-in-Pointer c = omega (arith, (bounds (sees (goal.at.overflow_sub-level-in-Pointer c).In-Entry) _ c.test-t.ensures c.in-Pointer.is).0)
+
+pub index-requires : goal.index-requires
+index-requires c = omega (arith, c.loop-j.invariant.under, c.requires.2.second)
+
+pub overflow_add-at-in-Pointer : goal.overflow_add-at-in-Pointer
+overflow_add-at-in-Pointer c = omega (arith, (bounds (sees (goal.at.overflow_add-at-in-Pointer c).In-Entry) _ c.test-t.ensures c.in-Pointer.is).1, c.index.ensures.1)
+
+pub loop-j-smaller : goal.loop-j-smaller
+loop-j-smaller c = omega (arith, (bounds (sees (goal.at.loop-j-smaller c).In-Entry) _ c.test-t.ensures c.in-Pointer.is).0)
+
+pub loop-j-preserved : goal.loop-j-preserved
+loop-j-preserved c = further c.loop-j.invariant c.test-t.ensures (sees (goal.at.loop-j-preserved c).In-Entry) c.in-Pointer.is c.index.ensures.0
