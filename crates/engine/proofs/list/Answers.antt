@@ -1,0 +1,50 @@
+use mathlib.Core.Path.{refl, ◌∙◌}
+use Prim.Native.Nat.{◌+◌, ◌*◌, ◌≤◌}
+use native.Mathlib.Omega.{arith}
+use lib.ListN.{length}
+use Rattle.access.specs.declared.Machine.{Machine}
+use Rattle.stages.specs.Tree.{Ran, run}
+use Rattle.stages.specs.Stages.{Result, look, walk_of}
+use Rattle.second_stage.specs.Words.{result_of}
+use Rattle.engine.proofs.Places.{within-reach}
+use Rattle.engine.proofs.Left.{Left, left_by}
+use Rattle.engine.proofs.Zeros.{zeroed}
+use Rattle.engine.proofs.list.Goals.{After-walk_into-w}
+use Rattle.engine.proofs.list.Goals as goal
+
+abbrev ran : After-walk_into-w → Ran (Result Machine)
+ran w = let a = w.args in run (look a.base a.bytes.now) (walk_of a.base (length a.bytes.now) a.a)
+
+-- what the walk left
+left : (w : After-walk_into-w) → let a = w.args in
+    Left (ran w) a.out.now a.from w.walk_into-w.new.out w.walk_into-w.result.next (result_of w.walk_into-w.result.reached)
+left w =
+    let a = w.args in
+    left_by (look a.base a.bytes.now) (walk_of a.base (length a.bytes.now) a.a) a.out.now a.from w.walk_into-w.ensures
+
+-- the reads have places
+fits : (w : After-walk_into-w) → length (ran w).reads ≤ w.args.places
+fits w =
+    let a = w.args in
+    omega (arith, within-reach a.a a.base (length a.bytes.now) (look a.base a.bytes.now), w.requires.2)
+
+pub walk_into-w-requires : goal.walk_into-w-requires
+walk_into-w-requires c = (c.requires.0, c.requires.1, omega (arith, c.requires.2, c.requires.3))
+
+pub clear-requires : goal.clear-requires
+clear-requires c = (omega (arith, (left (goal.at.clear-requires c).After-walk_into-w).next, fits (goal.at.clear-requires c).After-walk_into-w), omega (arith, (left (goal.at.clear-requires c).After-walk_into-w).size, c.requires.3))
+
+pub overflow_sub-result : goal.overflow_sub-result
+overflow_sub-result c = omega (arith, (left (goal.at.overflow_sub-result c).After-walk_into-w).next)
+
+pub returns : goal.returns
+returns c =
+    let a = c.args in
+    let w = (goal.at.returns c).After-walk_into-w in
+    record {
+      words =
+          c.clear.ensures
+          ∙ rw ((left w).words, (left w).next) (zeroed a.out.now a.from a.places (a.from + 4 * a.places) (ran w).reads refl);
+      count = omega (arith, (left w).next);
+      end = (left w).end;
+    }

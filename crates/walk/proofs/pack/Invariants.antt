@@ -1,0 +1,15 @@
+use mathlib.Core.Path.{◌≡◌, ap, ◌∙◌}
+use Prim.Native.Nat.{◌+◌, ◌*◌, ◌-◌, ◌≤◌}
+use native.Mathlib.Omega.{arith}
+use lib.ListN.{length, drop, length-set}
+use lib.Seq.{sets}
+use Rattle.stages.specs.Listed.{places}
+use Rattle.walk.specs.Walked.{unpack}
+use Rattle.walk.proofs.Packs.{packs, packs_all, filled}
+use Rattle.walk.proofs.pack.Given as goal
+
+abbrev pub invariant-loop-i : goal.invariant-loop-i
+invariant-loop-i l = (l.i ≤ places) × (length l.words ≡ 4 * places) × (length l.reads ≡ places) × (sets l.reads l.i (unpack (drop (4 * l.i) l.words)) ≡ unpack l.words)
+
+abbrev pub decreases-loop-i : goal.decreases-loop-i
+decreases-loop-i l = places - l.i
