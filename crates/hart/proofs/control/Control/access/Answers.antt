@@ -1,0 +1,22 @@
+use Rattle.std.proofs.Common.{sym, ◌∙◌, rules}
+use Rattle.hart.specs.Access.{access}
+use Rattle.table.proofs.Listed.{lookup-found}
+use Rattle.hart.proofs.control.Control.access.Goals as goal
+
+pub returns-in_default : goal.returns-in_default
+unfolding access
+returns-in_default c =
+    let l = c in
+    rw (sym l.lookup-found.ensures ∙ c.in_default.is) (rw l.refusal-own.ensures at c.unlisted.ensures)
+
+pub access_row-requires : goal.access_row-requires
+access_row-requires c =
+    let start = c in
+    let l = lookup-found _ _ _ (sym c.lookup-found.ensures ∙ c.in-At.is) in
+    (l.below, l.row, start.requires.0, start.requires.1)
+
+pub returns : goal.returns
+unfolding access
+returns c =
+    let l = c in
+    rw (sym l.lookup-found.ensures ∙ c.in-At.is) (rw l.refusal-own.ensures at c.access_row.ensures)

@@ -1,0 +1,6 @@
+use Rattle.hart.proofs.Stopped.{answered}
+use Rattle.std.proofs.Common.{rules}
+use Rattle.hart.proofs.control.Control.answer_halt.Goals as goal
+
+pub returns : goal.returns
+returns c = answered _ c.halt-e.result.outcome c.halt-e.ensures

@@ -1,0 +1,5 @@
+use Rattle.std.proofs.Common.{rules}
+use Rattle.hart.proofs.guest.unwalked.Goals as goal
+
+pub returns : goal.returns
+returns c = rw c.none.ensures

@@ -1,0 +1,5 @@
+use Rattle.std.proofs.Common.{◌∙◌, rules}
+use Rattle.hart.proofs.state.Hart.deliver.Goals as goal
+
+pub returns : goal.returns
+returns c = c.on.ensures ∙ rw c.control.ensures at c.deliver-c.ensures

@@ -1,0 +1,5 @@
+use Rattle.std.proofs.Common.{rules}
+use Rattle.hart.proofs.state.Hart.moved.Goals as goal
+
+pub returns : goal.returns
+returns c = rw c.next.ensures

@@ -1,0 +1,7 @@
+use Rattle.hart.specs.Trap.{trap}
+use Rattle.std.proofs.Common.{rules}
+use Rattle.hart.proofs.state.Hart.trap.Goals as goal
+
+pub returns : goal.returns
+unfolding trap
+returns c = rw (c.trapping.ensures, c.select-own.ensures, c.impossible.ensures, c.context.ensures)
