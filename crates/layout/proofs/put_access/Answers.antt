@@ -24,7 +24,7 @@ slice_bounds-put_step-end-2 c = lent_length c.args.out.now (_ ∷ []) step-size 
 
 pub shape_of-out : goal.shape_of-out
 shape_of-out c =
-    grown_length c.args.out.now (_ ∷ []) step-size c.put_step.new.out c.put_step.auto.1.1.0
+    grown_length c.args.out.now (_ ∷ []) step-size c.put_step.new.out c.put_step.auto.out
 
 pub returns : goal.returns
 unfolding access_words

@@ -27,7 +27,7 @@ slice_bounds-put_hart-end-2 c = lent_length c.args.out.now (_ ∷ _ ∷ []) hart
 
 pub shape_of-out : goal.shape_of-out
 shape_of-out c =
-    grown_length c.args.out.now (_ ∷ _ ∷ []) hart_size c.put_hart.new.out c.put_hart.auto.1.1.0
+    grown_length c.args.out.now (_ ∷ _ ∷ []) hart_size c.put_hart.new.out c.put_hart.auto.out
 
 pub returns : goal.returns
 unfolding step_words
