@@ -1,0 +1,33 @@
+use mathlib.Core.Path.{◌≡◌, refl, ◌∙◌}
+use mathlib.Core.List.{[]}
+use Prim.Native.Nat.{◌+◌, ◌-◌, ◌*◌, ◌≤◌}
+use native.Mathlib.Nat.{add-zero}
+use native.Mathlib.Omega.{arith}
+use lib.ListN.{length, drop, drop_of_length-le}
+use lib.Seq.{sets}
+use borrow.Author.Rules.{rules}
+use Rattle.stages.specs.Listed.{places, read_words}
+use Rattle.listing.proofs.Words.{place-written}
+use Rattle.listing.proofs.guest.put_reads.Goals as goal
+
+pub loop-i-init : goal.loop-i-init
+loop-i-init c = (omega arith, search rules, refl, rw add-zero)
+
+pub put-requires : goal.put-requires
+put-requires c = let l = c.loop-i in omega (arith, l.invariant.2, c.requires)
+
+pub loop-i-preserved : goal.loop-i-preserved
+loop-i-preserved c =
+    let l = c.loop-i in
+    let a = c.args in
+    let w = c.put.ensures in
+    (omega arith, l.invariant.1, c.put.auto.out ∙ l.invariant.2, rw w (place-written l.out a.t1 _ l.i a.from _ (omega (arith, l.invariant.1)) l.invariant.3))
+
+pub shape_of-out : goal.shape_of-out
+shape_of-out c = c.loop-i.invariant.2
+
+pub returns : goal.returns
+returns c =
+    let l = c.loop-i in
+    let none : drop l.i c.args.t1 ≡ [] = drop_of_length-le c.args.t1 {i = l.i} (omega (arith, l.invariant.1)) in
+    (rw none at l.invariant.3, l.invariant.1)

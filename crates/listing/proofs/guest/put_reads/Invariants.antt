@@ -1,0 +1,16 @@
+use mathlib.Core.Path.{◌≡◌, refl, ◌∙◌}
+use mathlib.Core.List.{[]}
+use Prim.Native.Nat.{◌+◌, ◌-◌, ◌*◌, ◌≤◌}
+use native.Mathlib.Nat.{add-zero}
+use native.Mathlib.Omega.{arith}
+use lib.ListN.{length, drop, drop_of_length-le}
+use lib.Seq.{sets}
+use Rattle.stages.specs.Listed.{places, read_words}
+use Rattle.listing.proofs.Words.{place-written}
+use Rattle.listing.proofs.guest.put_reads.Given as goal
+
+abbrev pub invariant-loop-i : goal.invariant-loop-i
+invariant-loop-i l = (l.i ≤ places) × (length l.reads ≡ places) × (length l.out ≡ length l.initial.out) × (sets l.out (l.from + 4 * l.i) (read_words (drop l.i l.reads)) ≡ sets l.initial.out l.from (read_words l.reads))
+
+abbrev pub decreases-loop-i : goal.decreases-loop-i
+decreases-loop-i l = places - l.i
