@@ -24,7 +24,7 @@ use Rattle.access.specs.Needs.{first_need, entry_need}
 use Rattle.access.specs.Faults.{access_fault, page_fault, entry_fault}
 use Rattle.exceptions.specs.declared.Exception.{Exception}
 use Rattle.stages.specs.Tree.{Walk, done, bind}
-use Rattle.stages.specs.Stages.{Result, yields, faults, onward, ◌then◌, slot, follow, inspect, down, translation, guest, second-of, first_of, last, final, walk_of}
+use Rattle.stages.specs.Stages.{Result, yields, faults, onward, ◌then◌, slot, follow, inspect, down, translation, guest, second_of, first_of, last, final, walk_of}
 use Rattle.stages.proofs.Trees.{then_assoc, begin-off, begin-at}
 use Rattle.stages.proofs.Bounds.{Within, within-begin}
 use Rattle.second_stage.specs.Words.{Into, onto, into, Sees}
@@ -46,7 +46,7 @@ module _ (base len : ℕ) (a : Access) where
       let g = guest (slot (first_of a) l table) in
       let e : suc l - 1 ≡ l = omega arith in
       rw (e, down-at (first_of a) l table, eqb-suc-zero l)
-      (then_assoc (translation (second-of a entry_need (entry_fault a g) g)) (inspect (first_of a) l (below (first_of a) l)) (final base len a))
+      (then_assoc (translation (second_of a entry_need (entry_fault a g) g)) (inspect (first_of a) l (below (first_of a) l)) (final base len a))
 
   entered-last : (g : Guest) → entered base len a 0 g ≡ final base len a g
   unfolding entered arrived final

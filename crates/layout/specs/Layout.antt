@@ -30,15 +30,15 @@ outcome_words (Refused number) = 2 ∷ number ∷ []
 outcome_words (Interrupted number) = 3 ∷ number ∷ []
 
 -- An event's result: the next hart, and what the event came to.
-abbrev pub step-size : ℕ
-step-size = hart_size + 2
+abbrev pub step_size : ℕ
+step_size = hart_size + 2
 
 unfoldable pub step_words : Step → List ℕ
 step_words s = words s.hart ++ outcome_words s.outcome
 
 -- A register access's result: the same, and the value answered.
-abbrev pub access-size : ℕ
-access-size = step-size + 1
+abbrev pub access_size : ℕ
+access_size = step_size + 1
 
 unfoldable pub access_words : Accessed → List ℕ
 access_words a = step_words (record { hart = a.hart; outcome = a.outcome }) ++ (a.value ∷ [])

@@ -7,7 +7,7 @@ ghost use Rattle.registers.specs.Places.{kept};
 ghost use Rattle.hart.specs.Event.{step};
 ghost use Rattle.hart.specs.Access.{access};
 ghost use Rattle.hart.specs.Lent.{on};
-ghost use Rattle.layout.specs.Layout.{hart_size, words, hart_of, outcome_words, step-size, step_words, access-size, access_words};
+ghost use Rattle.layout.specs.Layout.{hart_size, words, hart_of, outcome_words, step_size, step_words, access_size, access_words};
 ghost use Rattle.layout.specs.Taken.{put};
 
 use csr::Form;
@@ -95,7 +95,7 @@ fn outcome_words(o: Outcome) -> [u64; 2]
 
 // An event's result.
 pub fn put_step(s: Step, given: usize, out: &mut [u64]) -> u64
-    ensures { (result, out.new) ≡ put given step-size out.old (step_words s) }
+    ensures { (result, out.new) ≡ put given step_size out.old (step_words s) }
 {
     if given != HART {
         return 1;
@@ -113,7 +113,7 @@ pub fn put_step(s: Step, given: usize, out: &mut [u64]) -> u64
 
 // A register access's result.
 pub fn put_access(a: Accessed, given: usize, out: &mut [u64]) -> u64
-    ensures { (result, out.new) ≡ put given access-size out.old (access_words a) }
+    ensures { (result, out.new) ≡ put given access_size out.old (access_words a) }
 {
     if given != HART {
         return 1;
@@ -144,8 +144,8 @@ fn put_words(ws: &[u64], out: &mut [u64])
 
 // What an event comes to, around the registers that stand there.
 fn put_around(to: Control, outcome: Outcome, out: &mut [u64])
-    requires { step-size ≤ length out.old }
-    ensures { out.new ≡ step_words (step (on to (take kept (drop 3 out.old))) outcome) ++ drop step-size out.old }
+    requires { step_size ≤ length out.old }
+    ensures { out.new ≡ step_words (step (on to (take kept (drop 3 out.old))) outcome) ++ drop step_size out.old }
 {
     let o = outcome_words(outcome);
     out[0] = to.v;
@@ -165,7 +165,7 @@ pub fn access_into(
     word: u32,
     out: &mut [u64],
 ) -> u64
-    ensures { (result, out.new) ≡ put (length h.now) access-size out.old (access_words (access (hart_of h.now) form number w writes word)) }
+    ensures { (result, out.new) ≡ put (length h.now) access_size out.old (access_words (access (hart_of h.now) form number w writes word)) }
 {
     if h.len() != HART {
         return 1;

@@ -10,7 +10,7 @@ use Rattle.stages.specs.Listed.{places, unused, padded, read_words}
 use Rattle.stages.proofs.Words.{length-words, words_append, words-unused}
 use Rattle.second_stage.specs.Words.{stored}
 use Rattle.translate.specs.declared.Answer.{Answer}
-use Rattle.listing.specs.Listing.{list_at, translation-size, answer_words}
+use Rattle.listing.specs.Listing.{list_at, translation_size, answer_words}
 
 -- words written over all that stands behind others
 over_rest : (p d z : List ℕ) (n : ℕ) → length p ≡ n → length d ≡ length z → sets (p ++ d) n z ≡ p ++ z
@@ -21,22 +21,22 @@ over_rest p d z n e l =
     ∙ append-nil (take n (p ++ d) ++ z) ∙ ap (λ (r : List ℕ). r ++ z) (take_at p d n e)
 
 -- a list's reads behind seven words, then zeros in the places that are left
-closed_by : (p out : List ℕ) (rs : List Read) → length p ≡ list_at → length out ≡ translation-size → length rs ≤ places
-    → sets (p ++ drop list_at (sets out list_at (read_words rs))) (list_at + 4 * length rs) (replicate (translation-size - (list_at + 4 * length rs)) 0) ≡ p ++ read_words (padded places rs)
+closed_by : (p out : List ℕ) (rs : List Read) → length p ≡ list_at → length out ≡ translation_size → length rs ≤ places
+    → sets (p ++ drop list_at (sets out list_at (read_words rs))) (list_at + 4 * length rs) (replicate (translation_size - (list_at + 4 * length rs)) 0) ≡ p ++ read_words (padded places rs)
 closed_by p out rs e l few =
     let ws = read_words rs in
     let n = list_at + 4 * length rs in
-    let zeros : List ℕ = replicate (translation-size - n) 0 in
+    let zeros : List ℕ = replicate (translation_size - n) 0 in
     let rest = drop (7 + length ws) out in
-    let left : translation-size - n ≡ 4 * (places - length rs) = omega arith in
+    let left : translation_size - n ≡ 4 * (places - length rs) = omega arith in
     let list : drop list_at (sets out list_at ws) ≡ ws ++ rest = ap (drop 7) (sets-eq ws out 7 (omega (arith, length-words rs)) ∙ append_assoc (take 7 out) ws rest) ∙ drop_at (take 7 out) (ws ++ rest) 7 (length-take-le 7 out (omega arith)) in
     ap (λ (r : List ℕ). sets r n zeros) (ap (λ (r : List ℕ). p ++ r) list ∙ sym (append_assoc p ws rest))
     ∙ over_rest (p ++ ws) rest zeros n (simp length-append (omega (arith, e, length-words rs))) (simp (length-drop, length-replicate) (omega (arith, length-words rs)))
     ∙ append_assoc p ws zeros
     ∙ ap (λ (r : List ℕ). p ++ r) (rw left (sym (words_append rs (unused (places - length rs)) ∙ ap (λ (r : List ℕ). ws ++ r) (words-unused (places - length rs)))))
 
-pub closed : (x : Answer) (out : List ℕ) (rs : List Read) → length out ≡ translation-size → length rs ≤ places
-    → sets (answer_words x ++ (length rs ∷ drop list_at (sets out list_at (read_words rs)))) (list_at + 4 * length rs) (replicate (translation-size - (list_at + 4 * length rs)) 0)
+pub closed : (x : Answer) (out : List ℕ) (rs : List Read) → length out ≡ translation_size → length rs ≤ places
+    → sets (answer_words x ++ (length rs ∷ drop list_at (sets out list_at (read_words rs)))) (list_at + 4 * length rs) (replicate (translation_size - (list_at + 4 * length rs)) 0)
     ≡ answer_words x ++ (length rs ∷ read_words (padded places rs))
 closed (Answer.Address m) out rs = closed_by (answer_words (Answer.Address m) ++ (length rs ∷ [])) out rs refl
 closed (Answer.Refused number) out rs = closed_by (answer_words (Answer.Refused number) ++ (length rs ∷ [])) out rs refl

@@ -2,7 +2,7 @@
 use Rattle.std.specs.Prelude.{List, ◌∷◌, ◌++◌, ℕ, ◌+◌, ◌-◌, ◌*◌, length, replicate}
 use Rattle.stages.specs.Listed.{places, read_words}
 use Rattle.hart.specs.declared.guest.Performed.{Performed}
-use Rattle.layout.specs.Layout.{access-size, access_words}
+use Rattle.layout.specs.Layout.{access_size, access_words}
 use Rattle.translate.specs.declared.Answer.{Answer}
 use Rattle.translate.specs.declared.Translated.{Translated}
 use Rattle.translate.specs.Translated.{values}
@@ -22,15 +22,15 @@ abbrev pub list_at : ℕ
 list_at = 7
 
 -- A translation's result: the answer, the count, and the places of the list, 4 words each.
-abbrev pub translation-size : ℕ
-translation-size = list_at + 4 * places
+abbrev pub translation_size : ℕ
+translation_size = list_at + 4 * places
 
 unfoldable pub translation_words : Translated → List ℕ
 translation_words t = answer_words t.answer ++ (t.count ∷ read_words t.reads)
 
 -- A hypervisor load's or store's result: as a register access's (the next hart, what it came to, the value answered), then the count and the list.
-abbrev pub performed-size : ℕ
-performed-size = access-size + (1 + 4 * places)
+abbrev pub performed_size : ℕ
+performed_size = access_size + (1 + 4 * places)
 
 unfoldable pub performed_words : Performed → List ℕ
 performed_words p = access_words (record { hart = p.hart; outcome = p.outcome; value = p.value }) ++ (p.count ∷ read_words p.reads)

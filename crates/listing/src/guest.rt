@@ -3,7 +3,7 @@ ghost use Rattle.std.specs.Prelude.{◌≡◌, ◌+◌, ◌*◌, ◌≤◌, leng
 ghost use Rattle.std.proofs.lemmas.List.Edits.{sets};
 ghost use Rattle.stages.specs.Listed.{places, read_words};
 ghost use Rattle.layout.specs.Taken.{put};
-ghost use Rattle.listing.specs.Listing.{performed-size, performed_words};
+ghost use Rattle.listing.specs.Listing.{performed_size, performed_words};
 
 use hart::accesses::Accessed;
 use hart::guest::Performed;
@@ -31,7 +31,7 @@ pub fn put_reads(reads: [Read; PLACES], from: usize, out: &mut [u64])
 // Writes the result and returns 0. Writes nothing and returns 1 where a length is wrong, that of the hart's slice (given) or the
 // result's.
 pub fn put_performed(p: Performed, given: usize, out: &mut [u64]) -> u64
-    ensures { (result, out.new) ≡ put given performed-size out.old (performed_words p) }
+    ensures { (result, out.new) ≡ put given performed_size out.old (performed_words p) }
 {
     if given != layout::HART {
         return 1;

@@ -3,7 +3,7 @@
 
 ghost use Rattle.std.specs.Prelude.{◌≡◌, [], ◌∷◌, ◌++◌, length, drop};
 ghost use Rattle.std.proofs.lemmas.List.Edits.{sets};
-ghost use Rattle.listing.specs.Listing.{answer_words, translation-size, translation_words};
+ghost use Rattle.listing.specs.Listing.{answer_words, translation_size, translation_words};
 ghost use Rattle.translate.specs.Translated.{translated};
 ghost use Rattle.listing.specs.Taken.{kind_of, put_kind};
 
@@ -34,7 +34,7 @@ pub fn kind_of(n: u64) -> Kind
 
 // The first seven words: what it came to, up to five words of it, and the count.
 fn put_seven(out: &mut [u64], to: u64, a: u64, b: u64, c: u64, d: u64, e: u64, count: u64)
-    requires { length out.old ≡ translation-size }
+    requires { length out.old ≡ translation_size }
     ensures { out.new ≡ sets out.old 0 (to ∷ a ∷ b ∷ c ∷ d ∷ e ∷ count ∷ []) }
 {
     out[0] = to;
@@ -48,7 +48,7 @@ fn put_seven(out: &mut [u64], to: u64, a: u64, b: u64, c: u64, d: u64, e: u64, c
 
 // The answer and the count, before the list.
 fn put_answer(x: Answer, count: u64, out: &mut [u64])
-    requires { length out.old ≡ translation-size }
+    requires { length out.old ≡ translation_size }
     ensures { out.new ≡ answer_words x ++ (count ∷ drop 7 out.old) }
 {
     match x {
@@ -73,7 +73,7 @@ fn translate_into(
     width: u64,
     out: &mut [u64],
 )
-    requires { length out.old ≡ translation-size }
+    requires { length out.old ≡ translation_size }
     ensures { out.new ≡ translation_words (translated h base bytes.now kind address width) }
 {
     let s = translate::starts(h, base, bytes.len() as u64, kind, address, width);
@@ -105,7 +105,7 @@ pub fn put_translation(
     width: u64,
     out: &mut [u64],
 ) -> u64
-    ensures { (result, out.new) ≡ put_kind given translation-size kind out.old (translation_words (translated h base bytes.now (kind_of kind) address width)) }
+    ensures { (result, out.new) ≡ put_kind given translation_size kind out.old (translation_words (translated h base bytes.now (kind_of kind) address width)) }
 {
     if given != layout::HART {
         return 1;

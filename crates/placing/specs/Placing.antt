@@ -38,8 +38,8 @@ head_words p =
     ∷ state_words p.state
 
 -- then the count, and the places of the list, 4 words each
-abbrev pub place-size : ℕ
-place-size = head_size + 1 + 4 * places
+abbrev pub place_size : ℕ
+place_size = head_size + 1 + 4 * places
 
 unfoldable pub place_words : Place → List ℕ
 place_words p = head_words p ++ (p.count ∷ read_words p.reads)
@@ -56,8 +56,8 @@ shown_words (Item x) = 1 ∷ read_words (x ∷ [])
 shown_words Nothing = replicate 5 0
 
 -- A press's result: the place after it, what it answers, and the entry shown.
-abbrev pub pressed-size : ℕ
-pressed-size = place-size + 6 + 5
+abbrev pub pressed_size : ℕ
+pressed_size = place_size + 6 + 5
 
 unfoldable pub pressed_words : Pressed → List ℕ
 pressed_words r = place_words r.place ++ told_words r.told ++ shown_words r.shown

@@ -9,7 +9,7 @@ use Rattle.stepper.specs.declared.State.{State}
 use Rattle.stepper.specs.declared.State.TheVariants.{Going, Ended}
 use Rattle.stepper.specs.declared.Place.{Place}
 use Rattle.stepper.specs.declared.position.Position.{Position}
-use Rattle.placing.specs.Placing.{head_size, head_words, place-size, pressed-size}
+use Rattle.placing.specs.Placing.{head_size, head_words, place_size, pressed_size}
 
 -- word n
 abbrev pub word : List ℕ → ℕ → ℕ
@@ -58,4 +58,4 @@ is_place ws = same (take head_size ws) (head_words (place_said ws))
 -- a press on a place's words: 1, and nothing is written, where a length is wrong; 3 likewise, where they are no place's; else 0, and the result is written
 unfoldable pub put_pressed : (ws out result : List ℕ) → ℕ × List ℕ
 put_pressed ws out result =
-    pick (not (eqb (length ws) place-size) || not (eqb (length out) pressed-size)) (1, out) (pick (is_place ws) (0, result) (3, out))
+    pick (not (eqb (length ws) place_size) || not (eqb (length out) pressed_size)) (1, out) (pick (is_place ws) (0, result) (3, out))

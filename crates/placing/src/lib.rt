@@ -8,7 +8,7 @@ ghost use Rattle.listing.specs.Listing.{answer_words};
 ghost use Rattle.listing.specs.Taken.{kind_of, put_kind};
 ghost use Rattle.layout.specs.Layout.{hart_of};
 ghost use Rattle.stepper.specs.Press.{started, pressed};
-ghost use Rattle.placing.specs.Placing.{state_words, head_size, head_words, place-size, place_words, told_words, shown_words, pressed-size, pressed_words};
+ghost use Rattle.placing.specs.Placing.{state_words, head_size, head_words, place_size, place_words, told_words, shown_words, pressed_size, pressed_words};
 ghost use Rattle.placing.specs.Said.{answer_said, position_said, state_said, place_said, same, is_place, put_pressed};
 
 use access::{Guest, Machine};
@@ -157,7 +157,7 @@ fn put_at(ws: &[u64], from: usize, out: &mut [u64])
 
 // A place, from the first word on.
 fn put_place(p: Place, out: &mut [u64])
-    requires { place-size ≤ length out.old }
+    requires { place_size ≤ length out.old }
     ensures { out.new ≡ sets out.old 0 (place_words p) }
 {
     let reads = p.reads;
@@ -169,7 +169,7 @@ fn put_place(p: Place, out: &mut [u64])
 
 // A press's result.
 fn put_pressed(r: Pressed, out: &mut [u64])
-    requires { length out.old ≡ pressed-size }
+    requires { length out.old ≡ pressed_size }
     ensures { out.new ≡ pressed_words r }
 {
     let place = r.place;
@@ -205,7 +205,7 @@ fn answer_said(to: u64, a: u64, b: u64, c: u64, d: u64, e: u64) -> Answer
 
 // Where the walk of a place stands.
 fn state_said(ws: &[u64]) -> State
-    requires { length ws.now ≡ place-size }
+    requires { length ws.now ≡ place_size }
     ensures { result ≡ state_said ws.now }
 {
     if ws[13] == 3 {
@@ -223,7 +223,7 @@ fn state_said(ws: &[u64]) -> State
 
 // The place that words say.
 fn place_said(ws: &[u64]) -> Place
-    requires { length ws.now ≡ place-size }
+    requires { length ws.now ≡ place_size }
     ensures { result ≡ place_said ws.now }
 {
     Place {
@@ -269,7 +269,7 @@ fn are_same(a: &[u64], b: &[u64]) -> bool
 
 // Whether words are those of a place.
 fn is_place(ws: &[u64], p: Place) -> bool
-    requires { (length ws.now ≡ place-size) × (p ≡ place_said ws.now) }
+    requires { (length ws.now ≡ place_size) × (p ≡ place_said ws.now) }
     ensures { result ≡ is_place ws.now }
 {
     let head = head_words(p);
@@ -289,7 +289,7 @@ pub fn start_into(
     width: u64,
     out: &mut [u64],
 ) -> u64
-    ensures { (result, out.new) ≡ put_kind (length h.now) place-size kind out.old (place_words (started (hart_of h.now) base (length bytes.now) (kind_of kind) address width)) }
+    ensures { (result, out.new) ≡ put_kind (length h.now) place_size kind out.old (place_words (started (hart_of h.now) base (length bytes.now) (kind_of kind) address width)) }
 {
     if h.len() != layout::HART {
         return 1;

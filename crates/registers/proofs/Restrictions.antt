@@ -10,7 +10,7 @@ use Rattle.bits.proofs.Bools.{clash, or-true, or_cases}
 use Rattle.bits.proofs.Every.{every_any}
 use Rattle.registers.specs.Fields.{MODE}
 use Rattle.registers.specs.Places.{mstatus, hgatp, satp, vsatp}
-use Rattle.registers.specs.Rules.{Restriction, free, keeps, ignores, Rule, modes, stores-word, rules, rule}
+use Rattle.registers.specs.Rules.{Restriction, free, keeps, ignores, Rule, modes, stores_word, rules, rule}
 
 is_free : Restriction → Bool
 is_free free = true
@@ -33,12 +33,12 @@ all : every test 0 rules ≡ true
 unfolding every is_free
 all = refl
 
-other : (i : ℕ) → test i stores-word ≡ true
+other : (i : ℕ) → test i stores_word ≡ true
 unfolding is_free
 other i = or-true (restricted i)
 
 pub unrestricted : (i : ℕ) → eqb i mstatus ≡ false → eqb i hgatp ≡ false → (eqb i satp || eqb i vsatp) ≡ false → (rule i).restriction ≡ free
-unrestricted i p q r = is_free_lem (rule i).restriction (simp (p, q, r) at (every_any test rules stores-word all other i))
+unrestricted i p q r = is_free_lem (rule i).restriction (simp (p, q, r) at (every_any test rules stores_word all other i))
 
 pub ignored_mode : (i : ℕ) → (eqb i satp || eqb i vsatp) ≡ true → (rule i).restriction ≡ ignores MODE modes
 ignored_mode i t =

@@ -14,7 +14,7 @@ use Rattle.bits.proofs.Bools.{and_left, and_right, pick_both, split}
 use Rattle.bits.proofs.Every.{every-at, every_any}
 use Rattle.bits.proofs.Tests.{fits, outside}
 use Rattle.registers.specs.Places.{kept, stvec, sscratch, sepc, scause, stval, satp, vsstatus, vstvec, vsscratch, vsepc, vscause, vstval, vsatp, mstatus, medeleg, mideleg, mie, mtvec, mscratch, mepc, mcause, mtval, mip, mtinst, mtval2, hstatus, hedeleg, hideleg, htval, htinst, hgatp}
-use Rattle.registers.specs.Rules.{Rule, legal, stores-word, rules, rule, stored, of_m}
+use Rattle.registers.specs.Rules.{Rule, legal, stores_word, rules, rule, stored, of_m}
 use Rattle.registers.specs.Views.{View, ungated, up, no_bits}
 use Rattle.registers.specs.Registers.{count, supervisor, Register, register, registers, at}
 use Rattle.registers.specs.File.{initial, holds, registers_pass}
@@ -29,12 +29,12 @@ all_sane : every sane 0 rules ≡ true
 unfolding every sound outside fits spares get put
 all_sane = refl
 
-other_sane : (i : ℕ) → sane i stores-word ≡ true
+other_sane : (i : ℕ) → sane i stores_word ≡ true
 unfolding sound spares
 other_sane i = refl
 
 rule_sane : (p : ℕ) → sane p (rule p) ≡ true
-rule_sane = every_any sane rules stores-word all_sane other_sane
+rule_sane = every_any sane rules stores_word all_sane other_sane
 
 pub rule_sound : (p : ℕ) → sound (rule p) ≡ true
 rule_sound p = and_left (sound (rule p)) _ (rule_sane p)
@@ -45,7 +45,7 @@ unfolding stored
 stored-legal p = taken-legal (rule p) (rule_sound p)
 
 after-reset : (p : ℕ) → get_or initial p 0 ≡ (rule p).fixed
-after-reset p = get_or-map (λ (r : Rule). r.fixed) rules p stores-word
+after-reset p = get_or-map (λ (r : Rule). r.fixed) rules p stores_word
 
 -- "mip's bits 3, 7 and 11 come in with the hart": the bits of a place that do
 abbrev pub comes_in : ℕ → ℕ
@@ -64,7 +64,7 @@ unfolding every
 all_changed = refl
 
 changed : (p : ℕ) → p < kept → changes p ≡ (rule p).mask
-changed p k = eqb-true (changes p) _ (every-at (λ q (r : Rule). eqb (changes q) r.mask) rules stores-word all_changed p k)
+changed p k = eqb-true (changes p) _ (every-at (λ q (r : Rule). eqb (changes q) r.mask) rules stores_word all_changed p k)
 
 -- Of each place: a value passes check 2 exactly if the bits that come in, and those that writes store, make it of the register as it is after reset.
 pub holds_exactly : (p x : ℕ) → p < kept → x < 2 ^ 64 → (holds p x ≡ true) ↔ ((w : ℕ) × (stored p (changes p) (get_or initial p 0) w ≡ x))

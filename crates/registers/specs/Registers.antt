@@ -1,7 +1,7 @@
 -- The registers, each with its number, level and view (document 01, "Twenty-nine registers", and the twelve of 2026-01).
 use Rattle.std.specs.Prelude.{Bool, true, false, List, [], ◌∷◌, ℕ, get_or}
 use Rattle.registers.specs.Places.{stvec, sscratch, sepc, scause, stval, satp, vsstatus, vstvec, vsscratch, vsepc, vscause, vstval, vsatp, mstatus, medeleg, mideleg, mie, mtvec, mscratch, mepc, mcause, mtval, mtinst, mtval2, hstatus, hedeleg, hideleg, htval, htinst, hgatp}
-use Rattle.registers.specs.Views.{View, whole, status_view, no_bits, mip-view, hie_view, hip_view, hvip_view, sie_view, sip_view, vsie_view, vsip_view}
+use Rattle.registers.specs.Views.{View, whole, status_view, no_bits, mip_view, hie_view, hip_view, hvip_view, sie_view, sip_view, vsie_view, vsip_view}
 
 -- how many they are
 abbrev pub count : ℕ
@@ -65,7 +65,7 @@ registers =
     register 0x341 machine (whole mepc) ∷
     register 0x342 machine (whole mcause) ∷
     register 0x343 machine (whole mtval) ∷
-    register 0x344 machine mip-view ∷  -- mip
+    register 0x344 machine mip_view ∷  -- mip
     register 0x34a machine (whole mtinst) ∷
     register 0x34b machine (whole mtval2) ∷
     register 0x600 hypervisor (whole hstatus) ∷

@@ -43,8 +43,8 @@ abbrev pub stores : ℕ → ℕ → Rule
 stores m f = record { mask = m; fixed = f; restriction = free }
 
 -- mstatus: its fields; writing 2 keeps the old MPP; UXL and SXL read 2
-abbrev pub stores-mstatus : Rule
-stores-mstatus = record {
+abbrev pub stores_mstatus : Rule
+stores_mstatus = record {
   mask = bits (SIE ∷ MIE ∷ SPIE ∷ MPIE ∷ SPP ∷ MPP ∷ MPRV ∷ SUM ∷ MXR ∷ TVM ∷ TW ∷ TSR ∷ GVA ∷ MPV ∷ []);
   fixed = 0 after (UXL := 2 ∷ SXL := 2 ∷ []);
   restriction = keeps MPP (0 ∷ 1 ∷ 3 ∷ []);
@@ -55,15 +55,15 @@ abbrev pub stores_status : Rule
 stores_status = stores (bits (SIE ∷ SPIE ∷ SPP ∷ SUM ∷ MXR ∷ [])) (0 after (UXL := 2 ∷ []))
 
 -- hstatus: its fields; VSXL reads 2
-abbrev pub stores-hstatus : Rule
-stores-hstatus = stores (bits (HGVA ∷ SPV ∷ SPVP ∷ HU ∷ VTVM ∷ VTW ∷ VTSR ∷ [])) (0 after (VSXL := 2 ∷ []))
+abbrev pub stores_hstatus : Rule
+stores_hstatus = stores (bits (HGVA ∷ SPV ∷ SPVP ∷ HU ∷ VTVM ∷ VTW ∷ VTSR ∷ [])) (0 after (VSXL := 2 ∷ []))
 
 -- hedeleg mask B1FF, medeleg mask F0B7FF
-abbrev pub stores-hedeleg : Rule
-stores-hedeleg = stores 0xB1FF 0
+abbrev pub stores_hedeleg : Rule
+stores_hedeleg = stores 0xB1FF 0
 
-abbrev pub stores-medeleg : Rule
-stores-medeleg = stores 0xF0B7FF 0
+abbrev pub stores_medeleg : Rule
+stores_medeleg = stores 0xF0B7FF 0
 
 -- tvec: bit 1 cleared
 abbrev pub stores_tvec : Rule
@@ -78,12 +78,12 @@ abbrev pub modes : List ℕ
 modes = 0 ∷ 8 ∷ 9 ∷ 10 ∷ []
 
 -- satp, vsatp: one of these, else the whole write does nothing
-abbrev pub stores-satp : Rule
-stores-satp = record { mask = top; fixed = 0; restriction = ignores MODE modes }
+abbrev pub stores_satp : Rule
+stores_satp = record { mask = top; fixed = 0; restriction = ignores MODE modes }
 
 -- hgatp: MODE is one of these, another MODE keeps the old one while VMID and PPN are written; bits 59:58 and 1:0 are zero
-abbrev pub stores-hgatp : Rule
-stores-hgatp = record { mask = bits (MODE ∷ VMID ∷ span 43 2 ∷ []); fixed = 0; restriction = keeps MODE modes }
+abbrev pub stores_hgatp : Rule
+stores_hgatp = record { mask = bits (MODE ∷ VMID ∷ span 43 2 ∷ []); fixed = 0; restriction = keeps MODE modes }
 
 -- the interrupts of S, of VS and of M: software, timer and external
 abbrev pub of_s : List Field
@@ -96,59 +96,59 @@ abbrev pub of_m : List Field
 of_m = MSI ∷ MTI ∷ MEI ∷ []
 
 -- "Bits 2, 6 and 10 of mideleg read one; 1, 5 and 9 can be written."
-abbrev pub stores-mideleg : Rule
-stores-mideleg = stores (bits of_s) (bits of_vs)
+abbrev pub stores_mideleg : Rule
+stores_mideleg = stores (bits of_s) (bits of_vs)
 
 -- hideleg: 2, 6 and 10
-abbrev pub stores-hideleg : Rule
-stores-hideleg = stores (bits of_vs) 0
+abbrev pub stores_hideleg : Rule
+stores_hideleg = stores (bits of_vs) 0
 
 -- mie, and mip: "mip's bits 3, 7 and 11 come in with the hart, pass check 2 and can't be written" (what can: `registers`)
 abbrev pub stores_interrupts : Rule
 stores_interrupts = stores (bits (of_s ++ (of_vs ++ of_m))) 0
 
 -- all others: 64 bits
-abbrev pub stores-word : Rule
-stores-word = stores top 0
+abbrev pub stores_word : Rule
+stores_word = stores top 0
 
 -- the rule of each place
 abbrev pub rules : List Rule
 rules =
     stores_tvec ∷  -- stvec
-    stores-word ∷  -- sscratch
+    stores_word ∷  -- sscratch
     stores_epc ∷  -- sepc
-    stores-word ∷  -- scause
-    stores-word ∷  -- stval
-    stores-satp ∷  -- satp
+    stores_word ∷  -- scause
+    stores_word ∷  -- stval
+    stores_satp ∷  -- satp
     stores_status ∷  -- vsstatus
     stores_tvec ∷  -- vstvec
-    stores-word ∷  -- vsscratch
+    stores_word ∷  -- vsscratch
     stores_epc ∷  -- vsepc
-    stores-word ∷  -- vscause
-    stores-word ∷  -- vstval
-    stores-satp ∷  -- vsatp
-    stores-mstatus ∷  -- mstatus
-    stores-medeleg ∷  -- medeleg
-    stores-mideleg ∷  -- mideleg
+    stores_word ∷  -- vscause
+    stores_word ∷  -- vstval
+    stores_satp ∷  -- vsatp
+    stores_mstatus ∷  -- mstatus
+    stores_medeleg ∷  -- medeleg
+    stores_mideleg ∷  -- mideleg
     stores_interrupts ∷  -- mie
     stores_tvec ∷  -- mtvec
-    stores-word ∷  -- mscratch
+    stores_word ∷  -- mscratch
     stores_epc ∷  -- mepc
-    stores-word ∷  -- mcause
-    stores-word ∷  -- mtval
+    stores_word ∷  -- mcause
+    stores_word ∷  -- mtval
     stores_interrupts ∷  -- mip
-    stores-word ∷  -- mtinst
-    stores-word ∷  -- mtval2
-    stores-hstatus ∷  -- hstatus
-    stores-hedeleg ∷  -- hedeleg
-    stores-hideleg ∷  -- hideleg
-    stores-word ∷  -- htval
-    stores-word ∷  -- htinst
-    stores-hgatp ∷  -- hgatp
+    stores_word ∷  -- mtinst
+    stores_word ∷  -- mtval2
+    stores_hstatus ∷  -- hstatus
+    stores_hedeleg ∷  -- hedeleg
+    stores_hideleg ∷  -- hideleg
+    stores_word ∷  -- htval
+    stores_word ∷  -- htinst
+    stores_hgatp ∷  -- hgatp
     []
 
 abbrev pub rule : ℕ → Rule
-rule place = get_or rules place stores-word
+rule place = get_or rules place stores_word
 
 -- what the register at a place comes to hold where it held old and w is written to some of its bits
 unfoldable pub stored : (place mask old w : ℕ) → ℕ

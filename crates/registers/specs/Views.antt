@@ -52,8 +52,8 @@ abbrev pub no_bits : View
 no_bits = window 0 0 0
 
 -- mip: S's bits and 2 can be written; "mip's bits 3, 7 and 11 .. can't be written", and 6 and 10 move through hvip
-abbrev pub mip-view : View
-mip-view = window mip top (bits (of_s ++ (VSSI ∷ [])))
+abbrev pub mip_view : View
+mip_view = window mip top (bits (of_s ++ (VSSI ∷ [])))
 
 -- hie: mie's 2, 6 and 10. hip and hvip: mip's; of hip 2 alone can be written
 abbrev pub hie_view : View

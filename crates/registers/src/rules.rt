@@ -3,7 +3,7 @@ ghost use Rattle.std.specs.Prelude.{◌≡◌, ◌&&◌, [], ◌∷◌, ◌-◌,
 ghost use Rattle.std.specs.Int.Bits.{bit_and};
 ghost use Rattle.bits.specs.Field.{top, get};
 ghost use Rattle.registers.specs.Fields.{MPP, MODE};
-ghost use Rattle.registers.specs.Rules.{among, taken, legal, rule, modes, stores-mstatus, stores_status, stores-hstatus, stores-hedeleg, stores-medeleg, stores-mideleg, stores-hideleg, stores_interrupts, stores_tvec, stores_epc, stores-satp, stores-hgatp};
+ghost use Rattle.registers.specs.Rules.{among, taken, legal, rule, modes, stores_mstatus, stores_status, stores_hstatus, stores_hedeleg, stores_medeleg, stores_mideleg, stores_hideleg, stores_interrupts, stores_tvec, stores_epc, stores_satp, stores_hgatp};
 
 use crate::fields::{MODE, MPP};
 use crate::masks;
@@ -50,7 +50,7 @@ pub fn take(place: usize, old: u64, x: u64) -> u64
 
 // The S registers that can't hold every word; vsatp and the others of VS alike.
 pub fn supervisor_legal(tvec: u64, epc: u64, satp: u64) -> bool
-    ensures { result ≡ (legal stores_tvec tvec && (legal stores_epc epc && legal stores-satp satp)) }
+    ensures { result ≡ (legal stores_tvec tvec && (legal stores_epc epc && legal stores_satp satp)) }
 {
     let modes = mode_fits(satp) & masked(masks::WORD, 0, satp);
     masked(masks::TVEC, 0, tvec) & (masked(masks::EPC, 0, epc) & modes)
@@ -66,7 +66,7 @@ pub fn machine_legal(
     epc: u64,
     mip: u64,
 ) -> bool
-    ensures { result ≡ (legal stores-mstatus mstatus && (legal stores-medeleg medeleg && (legal stores-mideleg mideleg && (legal stores_interrupts mie && (legal stores_tvec tvec && (legal stores_epc epc && legal stores_interrupts mip)))))) }
+    ensures { result ≡ (legal stores_mstatus mstatus && (legal stores_medeleg medeleg && (legal stores_mideleg mideleg && (legal stores_interrupts mie && (legal stores_tvec tvec && (legal stores_epc epc && legal stores_interrupts mip)))))) }
 {
     let status = mpp_fits(mstatus) & masked(masks::MSTATUS, masks::MSTATUS_FIXED, mstatus);
     let pending = masked(masks::EPC, 0, epc) & masked(masks::INTERRUPTS, 0, mip);
@@ -77,7 +77,7 @@ pub fn machine_legal(
 
 // The H registers that can't hold every word.
 pub fn hypervisor_legal(hstatus: u64, hedeleg: u64, hideleg: u64, hgatp: u64) -> bool
-    ensures { result ≡ (legal stores-hstatus hstatus && (legal stores-hedeleg hedeleg && (legal stores-hideleg hideleg && legal stores-hgatp hgatp))) }
+    ensures { result ≡ (legal stores_hstatus hstatus && (legal stores_hedeleg hedeleg && (legal stores_hideleg hideleg && legal stores_hgatp hgatp))) }
 {
     let modes = mode_fits(hgatp) & masked(masks::HGATP, 0, hgatp);
     let delegated = masked(masks::HEDELEG, 0, hedeleg)

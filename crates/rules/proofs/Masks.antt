@@ -194,16 +194,16 @@ module _ (P L : Judgement) where
   ruled v r w x h a d u zero bad =
       pick ((not v || (w && not r) || not h) || pick (not (r || x)) (a || d || u || zero) bad) Bad (pick (not (r || x)) P L)
 
-  by-pointer : (v r w x h a d u zero bad : Bool) → alone v r w x h a d u ≡ true → ruled v r w x h a d u zero bad ≡ pick zero Bad P
-  by-pointer false r w x h a d u zero bad t = clash t
-  by-pointer true true w x h a d u zero bad t = clash t
-  by-pointer true false true x h a d u zero bad t = clash t
-  by-pointer true false false true h a d u zero bad t = clash t
-  by-pointer true false false false false a d u zero bad t = clash t
-  by-pointer true false false false true true d u zero bad t = clash t
-  by-pointer true false false false true false true u zero bad t = clash t
-  by-pointer true false false false true false false true zero bad t = clash t
-  by-pointer true false false false true false false false zero bad t = refl
+  by_pointer : (v r w x h a d u zero bad : Bool) → alone v r w x h a d u ≡ true → ruled v r w x h a d u zero bad ≡ pick zero Bad P
+  by_pointer false r w x h a d u zero bad t = clash t
+  by_pointer true true w x h a d u zero bad t = clash t
+  by_pointer true false true x h a d u zero bad t = clash t
+  by_pointer true false false true h a d u zero bad t = clash t
+  by_pointer true false false false false a d u zero bad t = clash t
+  by_pointer true false false false true true d u zero bad t = clash t
+  by_pointer true false false false true false true u zero bad t = clash t
+  by_pointer true false false false true false false true zero bad t = clash t
+  by_pointer true false false false true false false false zero bad t = refl
 
   turned : (b : Bool) → pick b Bad L ≡ pick (not b) L Bad
   turned true = refl
@@ -253,7 +253,7 @@ module _ (n : Need) (level address e : ℕ) where
   unfolding judged faulty malformed bad_pointer
   judged-pointer t =
       rw (page-target e)
-      (by-pointer (Pointer (target e)) (Leaf (target e + get (offset level) address)) (has «V» e) (has R e) (has W e) (has X e) (high e) (has A e) (has D e) (has U e) (eqb level 0) (bad_leaf n level e)
+      (by_pointer (Pointer (target e)) (Leaf (target e + get (offset level) address)) (has «V» e) (has R e) (has W e) (has X e) (high e) (has A e) (has D e) (has U e) (eqb level 0) (bad_leaf n level e)
       (sym (pointer-test e) ∙ eq-eqb (bit_and e 0xFFC00000000000DF) 1 t))
 
   pub judged-leaf : (bit_and e 0xFFC00000000000DF ≡ 1 → ⊥) → level < 5 → (t : Test) → t ≡ test_of n → (b : Bool) → takes t e (low level) ≡ b → judged n level address e ≡ pick b (Leaf (page e + bit_and address (low level))) Bad

@@ -9,7 +9,7 @@ use Rattle.access.specs.declared.Machine.{Machine}
 use Rattle.access.specs.Needs.{second_need, entry_need}
 use Rattle.access.specs.Faults.{guest_page_fault, entry_fault}
 use Rattle.stages.specs.Tree.{Walk, done}
-use Rattle.stages.specs.Stages.{Result, faults, Translation, down, second-of}
+use Rattle.stages.specs.Stages.{Result, faults, Translation, down, second_of}
 
 -- what the second stage needs and raises: for the access itself where no first-stage level is left, else for a guest entry
 abbrev pub need_at : Access → ℕ → Need
@@ -19,7 +19,7 @@ abbrev pub fault_at : Access → ℕ → Guest → Exception
 fault_at a left g = pick (eqb left 0) (guest_page_fault a g) (entry_fault a g)
 
 abbrev pub second_at : Access → ℕ → Guest → Translation Machine
-second_at a left g = second-of a (need_at a left) (fault_at a left g) g
+second_at a left g = second_of a (need_at a left) (fault_at a left g) g
 
 -- where a pointer at a level leads
 unfoldable pub below : {A : Type 0} → Translation A → ℕ → ℕ → Walk (Result A)

@@ -20,7 +20,7 @@ use Rattle.access.specs.declared.Machine.{Machine}
 use Rattle.access.specs.Needs.{second_need}
 use Rattle.access.specs.Faults.{guest_page_fault}
 use Rattle.stages.specs.Tree.{Walk, done, ask, bind, item, listed, found, run}
-use Rattle.stages.specs.Stages.{Result, yields, faults, Translation, ◌then◌, follow, inspect, down, begin, translation, second-of, first_of, last, final, walk_of}
+use Rattle.stages.specs.Stages.{Result, yields, faults, Translation, ◌then◌, follow, inspect, down, begin, translation, second_of, first_of, last, final, walk_of}
 use Rattle.stages.specs.Listed.{places, most}
 
 -- a walk asks at most n times on any way
@@ -92,13 +92,13 @@ pub most-places : (n m : ℕ) → n ≤ 5 → m ≤ 5 → most n m ≤ places
 most-places n m f s = let p : suc n * suc m ≤ 6 * 6 = mul-le-mul (suc-le-suc f) (suc-le-suc s) in omega (arith, p)
 
 module _ (a : Access) where
-  within-second : (n : Need) (f : Exception) (g : Guest) → Within (translation (second-of a n f g)) a.second.levels
-  within-second n f g = rw mul-one at (within-begin (second-of a n f g) 0 (λ x. tt) a.second.levels)
+  within-second : (n : Need) (f : Exception) (g : Guest) → Within (translation (second_of a n f g)) a.second.levels
+  within-second n f g = rw mul-one at (within-begin (second_of a n f g) 0 (λ x. tt) a.second.levels)
 
   within-final : (base len : ℕ) (g : Guest) → Within (final base len a g) a.second.levels
   unfolding final
   within-final base len g =
-      let w = translation (second-of a (second_need a) (guest_page_fault a g) g) in
+      let w = translation (second_of a (second_need a) (guest_page_fault a g) g) in
       rw add-zero at (within_then w (λ m. done (last base len a m)) a.second.levels 0 (within-second _ _ g) (λ m. tt))
 
   -- n levels over m read at most (n + 1) (m + 1) - 1 entries

@@ -11,7 +11,7 @@ use Rattle.access.specs.declared.Machine.{Machine}
 use Rattle.access.specs.Needs.{second_need}
 use Rattle.access.specs.Faults.{access_fault, guest_page_fault}
 use Rattle.stages.specs.Tree.{Walk, done, Ran, run}
-use Rattle.stages.specs.Stages.{Result, yields, faults, onward, ◌then◌, translation, second-of, first_of, last, final, walk_of}
+use Rattle.stages.specs.Stages.{Result, yields, faults, onward, ◌then◌, translation, second_of, first_of, last, final, walk_of}
 use Rattle.stages.proofs.Runs.{run_bind}
 
 module _ (look : Machine → Entry) where
@@ -29,7 +29,7 @@ module _ (look : Machine → Entry) where
   unfolding walk_of final last run
   lands_inside base len a m =
       after (translation (first_of a)) (final base len a) m _
-      (λ g. after (translation (second-of a (second_need a) (guest_page_fault a g) g)) (λ x. done (last base len a x)) m _
+      (λ g. after (translation (second_of a (second_need a) (guest_page_fault a g) g)) (λ x. done (last base len a x)) m _
       (λ x. ends x (within base len x.0 a.width) refl))
     where
       ends : (x : Machine) (b : Bool) → within base len x.0 a.width ≡ b → pick b (yields x) (faults (access_fault a)) ≡ yields m → within base len m.0 a.width ≡ true

@@ -26,9 +26,9 @@ use Rattle.access.specs.Faults.{access_fault, page_fault, entry_fault, guest_pag
 use Rattle.access.proofs.Faults.{not-high, access-low, page-low}
 use Rattle.stages.specs.declared.Read.{Read}
 use Rattle.stages.specs.Tree.{Walk, done, ask, bind, item, Ran, listed, found, run}
-use Rattle.stages.specs.Stages.{Result, yields, faults, onward, ◌then◌, Translation, slot, follow, inspect, down, begin, translation, guest, machine, second-of, first_of, last, final, walk_of}
-use Rattle.stages.specs.Through.{Only, Points, own_right, entry_right, second_item, Descent, at_leaf, by-pointer, LetThrough, Leads, stays, falls, GuestEntry, Yields, FirstResult, bare, walked, AnsweredThrough}
-use Rattle.stages.specs.Denied.{at_entry, at-access, GuestPageFault}
+use Rattle.stages.specs.Stages.{Result, yields, faults, onward, ◌then◌, Translation, slot, follow, inspect, down, begin, translation, guest, machine, second_of, first_of, last, final, walk_of}
+use Rattle.stages.specs.Through.{Only, Points, own_right, entry_right, second_item, Descent, at_leaf, by_pointer, LetThrough, Leads, stays, falls, GuestEntry, Yields, FirstResult, bare, walked, AnsweredThrough}
+use Rattle.stages.specs.Denied.{at_entry, at_access, GuestPageFault}
 use Rattle.stages.proofs.Trees.{begin-off, begin-at}
 use Rattle.stages.proofs.Runs.{run_bind}
 use Rattle.stages.proofs.Offsets.{never, low_part, room, keeps_low}
@@ -39,7 +39,7 @@ use Rattle.stages.proofs.Raised.{second-fault, final-fault}
 
 module _ (look : Machine → Entry) (a : Access) (n : Need) (f : Exception) (g : Guest) where
   abbrev t : Translation Machine
-  t = second-of a n f g
+  t = second_of a n f g
 
   -- from a level down there is a leaf, and the address is what it yields
   record Found (level table : ℕ) (xs : List Read) (m : Machine) : Type 0 where
@@ -53,7 +53,7 @@ module _ (look : Machine → Entry) (a : Access) (n : Need) (f : Exception) (g :
 
   deeper : (level table e : ℕ) (xs : List Read) (m : Machine) → Points level e → Under level (target e) xs m → Found level table (second_item a.second g.0 level table e ∷ xs) m
   deeper zero table e xs m p u = absurd u
-  deeper (suc l) table e xs m p u = record { leaf = u.leaf; items = by-pointer l table e xs u.leaf p u.items; yielded = u.yielded }
+  deeper (suc l) table e xs m p u = record { leaf = u.leaf; items = by_pointer l table e xs u.leaf p u.items; yielded = u.yielded }
 
   visited : (level table : ℕ) (m : Machine) (next : ℕ → Walk (Result Machine))
       → ((x : ℕ) → (run look (next x)).end ≡ yields m → Under level x (run look (next x)).reads m)
@@ -100,8 +100,8 @@ module _ (look : Machine → Entry) (a : Access) (n : Need) (f : Exception) (g :
         }
 
     -- the second stage, on, has let through what it yields
-    pub let_through : 0 < a.second.levels → (k : ℕ) → k ≤ 12 → g.0 % 2 ^ k ≡ 0 → (m : Machine) → (run look (translation (second-of a n f g))).end ≡ yields m
-        → LetThrough a.second right g (run look (translation (second-of a n f g))).reads m (2 ^ k)
+    pub let_through : 0 < a.second.levels → (k : ℕ) → k ≤ 12 → g.0 % 2 ^ k ≡ 0 → (m : Machine) → (run look (translation (second_of a n f g))).end ≡ yields m
+        → LetThrough a.second right g (run look (translation (second_of a n f g))).reads m (2 ^ k)
     unfolding run
     let_through p k small aligned m h =
         rw (begin-at t a.second.levels p) (go (well_formed second a.second.levels g.0) (rw (begin-at t a.second.levels p) at h))
@@ -136,7 +136,7 @@ only_append s (x ∷ xs) ys h k = (h.0, only_append s xs ys h.1 k)
 
 module _ (a : Access) (n : Need) (f : Exception) (g : Guest) where
   abbrev u : Translation Machine
-  u = second-of a n f g
+  u = second_of a n f g
 
   asks_follow : (d : Judgement) (next : ℕ → Walk (Result Machine)) → ((x : ℕ) → Asks second (next x)) → Asks second (follow u d next)
   unfolding follow
@@ -158,8 +158,8 @@ module _ (a : Access) (n : Need) (f : Exception) (g : Guest) where
       go true = asks_down l (a.second.ppn * 4096)
       go false = tt
 
-  only_second : (look : Machine → Entry) → Only second (run look (translation (second-of a n f g))).reads
-  only_second look = asks_run look second (translation (second-of a n f g)) (asks_begin a.second.levels)
+  only_second : (look : Machine → Entry) → Only second (run look (translation (second_of a n f g))).reads
+  only_second look = asks_run look second (translation (second_of a n f g)) (asks_begin a.second.levels)
 
 -- ---- the first stage's part of the list
 
@@ -204,7 +204,7 @@ module _ (look : Machine → Entry) (a : Access) (on : 0 < a.second.levels) wher
       g = entry_at a level table
 
       w : Walk (Result Machine)
-      w = translation (second-of a entry_need (entry_fault a g) g)
+      w = translation (second_of a entry_need (entry_fault a g) g)
 
       ws : List Read
       ws = (run look w).reads
@@ -367,7 +367,7 @@ module _ (look : Machine → Entry) (base len : ℕ) (a : Access) (on : 0 < a.se
   final-through g even = rw (run_bind look w (onward (λ m. done (last base len a m)))) (go (run look w).end refl)
     where
       w : Walk (Result Machine)
-      w = translation (second-of a (second_need a) (guest_page_fault a g) g)
+      w = translation (second_of a (second_need a) (guest_page_fault a g) g)
 
       ws : List Read
       ws = (run look w).reads
@@ -480,7 +480,7 @@ module _ (look : Machine → Entry) (base len : ℕ) (a : Access) (on : 0 < a.se
       itself g e (inl p) c = other (inl p) c
       itself g e (inr p) c =
           let only = (final_part look base len a on 0 (omega arith) (omega arith) g e).only in
-          rw p (record { guest = g.0; denied = at-access ws (run look (final base len a g)).reads g refl only (first-stage.result g e); cause = refl; value = refl; value2 = refl; flag = refl })
+          rw p (record { guest = g.0; denied = at_access ws (run look (final base len a g)).reads g refl only (first-stage.result g e); cause = refl; value = refl; value2 = refl; flag = refl })
 
       go : (o : Result Guest) → (run look w).end ≡ o → (run look (onward (final base len a) o)).end ≡ faults f → 20 ≤ f.cause → Told (ws ++ (run look (onward (final base len a) o)).reads)
       go (faults x) e q = let k : x ≡ f = cc in rw append-nil (entry (first-stage.fault f (e ∙ ap faults k)))

@@ -19,7 +19,7 @@ use Rattle.access.specs.declared.Machine.{Machine}
 use Rattle.access.specs.Needs.{second_need, entry_need}
 use Rattle.access.specs.Faults.{access_fault, page_fault, guest_page_fault, entry_fault}
 use Rattle.stages.specs.Tree.{Walk, done, ask, bind, item, listed, found, run}
-use Rattle.stages.specs.Stages.{Result, yields, faults, ◌then◌, Translation, slot, follow, inspect, down, begin, translation, guest, second-of, first_of, last, final, walk_of}
+use Rattle.stages.specs.Stages.{Result, yields, faults, ◌then◌, Translation, slot, follow, inspect, down, begin, translation, guest, second_of, first_of, last, final, walk_of}
 use Rattle.stages.proofs.Offsets.{never}
 
 module _ (P : Exception → Type 0) where
@@ -73,18 +73,18 @@ module _ (P : Exception → Type 0) where
 
   -- what holds of an access fault and of the second stage's own, where it is on, holds of every fault of the second stage
   module _ (a : Access) (access : P (access_fault a)) where
-    raises-second : (n : Need) (f : Exception) (g : Guest) → (0 < a.second.levels → P f) → Raises (translation (second-of a n f g))
-    raises-second n f g h = raises-begin (second-of a n f g) access (λ x. tt) a.second.levels h
+    raises-second : (n : Need) (f : Exception) (g : Guest) → (0 < a.second.levels → P f) → Raises (translation (second_of a n f g))
+    raises-second n f g h = raises-begin (second_of a n f g) access (λ x. tt) a.second.levels h
 
     pub second-fault : (n : Need) (f : Exception) (g : Guest) → (0 < a.second.levels → P f) → (look : Machine → Entry) (x : Exception)
-        → (run look (translation (second-of a n f g))).end ≡ faults x → P x
-    second-fault n f g h look = raises-run look (translation (second-of a n f g)) (raises-second n f g h)
+        → (run look (translation (second_of a n f g))).end ≡ faults x → P x
+    second-fault n f g h look = raises-run look (translation (second_of a n f g)) (raises-second n f g h)
 
   -- and of every fault of the access itself
   module _ (base len : ℕ) (a : Access) (access : P (access_fault a)) where
     raises-final : (g : Guest) → (0 < a.second.levels → P (guest_page_fault a g)) → Raises (final base len a g)
     unfolding final last
-    raises-final g guest-page = raises_then (translation (second-of a (second_need a) (guest_page_fault a g) g)) _ (raises-second a access (second_need a) (guest_page_fault a g) g guest-page) (λ m. ends m (within base len m.0 a.width))
+    raises-final g guest-page = raises_then (translation (second_of a (second_need a) (guest_page_fault a g) g)) _ (raises-second a access (second_need a) (guest_page_fault a g) g guest-page) (λ m. ends m (within base len m.0 a.width))
       where
         ends : (m : Machine) (b : Bool) → Raises (done (pick b (yields m) (faults (access_fault a))))
         ends m true = tt

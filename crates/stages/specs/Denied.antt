@@ -14,7 +14,7 @@ use Rattle.stages.specs.Through.{Only, Leads, FirstResult}
 -- first stage's result, or the access's address if vsatp is Bare": "Other .. words are 0".
 pub data Denied (root : Root) (address : ℕ) (xs : List Read) : (guest word : ℕ) → Type 0 where
   at_entry : (level t : ℕ) → 0 < root.levels → Leads (root.levels - 1) (root.ppn * 4096) xs level t → Denied root address xs (t + 8 * index first root.levels level address) 0x3000
-  at-access : (earlier walk : List Read) (g : Guest) → xs ≡ earlier ++ walk → Only second walk → FirstResult root address earlier g → Denied root address xs g.0 0
+  at_access : (earlier walk : List Read) (g : Guest) → xs ≡ earlier ++ walk → Only second walk → FirstResult root address earlier g → Denied root address xs g.0 0
 
 -- "the fault of the original access: 20, 21 or 23" (2026-04); "second value is the guest physical address shifted right by 2"; "The value is the virtual address; the
 -- flag is the effective V."

@@ -85,8 +85,8 @@ abbrev pub translation : {A : Type 0} → Translation A → Walk (Result A)
 translation t = begin t t.tables.levels
 
 -- The second stage: its tables' own addresses are machine addresses. With V=0 it has no levels.
-abbrev pub second-of : Access → Need → Exception → Guest → Translation Machine
-second-of a need fault g =
+abbrev pub second_of : Access → Need → Exception → Guest → Translation Machine
+second_of a need fault g =
     record {
       stage = second;
       tables = a.second;
@@ -108,7 +108,7 @@ first_of a =
       need = first_need a;
       fault = page_fault a;
       outside = access_fault a;
-      through = λ x. translation (second-of a entry_need (entry_fault a (guest x)) (guest x));
+      through = λ x. translation (second_of a entry_need (entry_fault a (guest x)) (guest x));
       wrap = guest;
     }
 
@@ -118,7 +118,7 @@ last base len a m = pick (within base len m.0 a.width) (yields m) (faults (acces
 
 -- "the first stage's result, or the access's address if vsatp is Bare, goes through the second stage, if on, for the access itself"
 unfoldable pub final : ℕ → ℕ → Access → Guest → Walk (Result Machine)
-final base len a g = translation (second-of a (second_need a) (guest_page_fault a g) g) then (λ m. done (last base len a m))
+final base len a g = translation (second_of a (second_need a) (guest_page_fault a g) g) then (λ m. done (last base len a m))
 
 -- The walk of an access over an image of a base and length.
 unfoldable pub walk_of : ℕ → ℕ → Access → Walk (Result Machine)

@@ -71,7 +71,7 @@ second_item root g level table e = item (number second) level (machine (table + 
 -- "its items from the top level down to a leaf, one after the other": from a level and a table on, with the leaf's item
 pub data Descent (root : Root) (g : ℕ) : ℕ → ℕ → List Read → Read → Type 0 where
   at_leaf : (level table e : ℕ) → pointer e ≡ false → Descent root g level table (second_item root g level table e ∷ []) (second_item root g level table e)
-  by-pointer : (level table e : ℕ) (xs : List Read) (leaf : Read) → Points (suc level) e → Descent root g level (target e) xs leaf
+  by_pointer : (level table e : ℕ) (xs : List Read) (leaf : Read) → Points (suc level) e → Descent root g level (target e) xs leaf
       → Descent root g (suc level) table (second_item root g (suc level) table e ∷ xs) leaf
 
 -- "the 2^(12 + 9 times the level) machine bytes from the leaf's PPN times 4096": size bytes from an address on lie there

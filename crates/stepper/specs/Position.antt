@@ -14,7 +14,7 @@ use Rattle.access.specs.declared.Guest.{Guest}
 use Rattle.access.specs.declared.Machine.{Machine}
 use Rattle.access.specs.Needs.{first_need, second_need, entry_need}
 use Rattle.access.specs.Faults.{access_fault, page_fault, guest_page_fault, entry_fault}
-use Rattle.stages.specs.Stages.{Result, faults, Translation, guest, machine, slot, second-of, first_of, last}
+use Rattle.stages.specs.Stages.{Result, faults, Translation, guest, machine, slot, second_of, first_of, last}
 use Rattle.translate.specs.Translated.{answer}
 use Rattle.stepper.specs.declared.State.{State}
 use Rattle.stepper.specs.declared.State.TheVariants.{Going, Ended}
@@ -35,7 +35,7 @@ abbrev pub fault_for : Access → (entry : Bool) → Guest → Exception
 fault_for a entry g = pick entry (entry_fault a g) (guest_page_fault a g)
 
 abbrev pub second_for : Access → (entry : Bool) → Guest → Translation Machine
-second_for a entry g = second-of a (need_for a entry) (fault_for a entry g) g
+second_for a entry g = second_of a (need_for a entry) (fault_for a entry g) g
 
 -- "whose stage isn't 1 or 2, or where a level still being walked isn't below its mode's depth" (2026-07): the first stage is being walked at its own entry, and
 -- while the second is walked for a guest entry

@@ -5,20 +5,20 @@ use borrow.Author.Rules.{rules}
 use Rattle.hart.specs.declared.guest.Performed.{Performed}
 use Rattle.layout.specs.Taken.{put}
 use Rattle.layout.proofs.Lengths.{hart_wrong, out_wrong, both_fit}
-use Rattle.listing.specs.Listing.{performed-size, performed_words}
+use Rattle.listing.specs.Listing.{performed_size, performed_words}
 use Rattle.exports_guest.proofs.balcumentri_hsv.Statement.{statement}
 use Rattle.exports_guest.proofs.balcumentri_hsv.Tie as tie
 
 returns : tie.Need-returns
-returns c = rw (hart_wrong _ _ performed-size c.if1.true)
+returns c = rw (hart_wrong _ _ performed_size c.if1.true)
 
 returns-2 : tie.Need-returns-2
-returns-2 c = rw (out_wrong _ _ performed-size c.before.if1.false c.if2.true)
+returns-2 c = rw (out_wrong _ _ performed_size c.before.if1.false c.if2.true)
 
 returns-3 : tie.Need-returns-3
 unfolding put
 returns-3 c =
-    let fit = both_fit _ _ performed-size c.before.before.before.before.before.before.before.before.before.before.if1.false c.before.before.before.before.before.before.before.before.before.if2.false in
+    let fit = both_fit _ _ performed_size c.before.before.before.before.before.before.before.before.before.before.if1.false c.before.before.before.before.before.before.before.before.before.if2.false in
     let stored = rw c.before.before.before.before.before.before.before.before.hart-of.ensures at c.before.before.before.before.before.before.hsv.ensures in
     rw fit
     (ap (λ (x : ℕ × List ℕ). (x.0, x.1, c.before.before.before.before.before.before.hsv.new.1.1.0)) (rw fit at c.before.before.put-performed.ensures)

@@ -6,7 +6,7 @@ use lib.ListN.{length, set, length-drop}
 use borrow.Rule.Slice.PartMut.{put_mid}
 use Rattle.registers.specs.Places.{kept}
 use Rattle.hart.specs.Hart.{passes}
-use Rattle.layout.specs.Layout.{step-size, access-size, access_words}
+use Rattle.layout.specs.Layout.{step_size, access_size, access_words}
 use Rattle.layout.specs.Taken.{put}
 use Rattle.layout.proofs.Lengths.{hart_wrong, out_wrong, both_fit}
 use Rattle.layout.proofs.Lent.{lent, back_length, answer-words}
@@ -14,18 +14,18 @@ use Rattle.layout.proofs.access_into.Goals.{After-access-answer}
 use Rattle.layout.proofs.access_into.Goals as goal
 
 -- with the registers back and the value written there are as many words
-still-fits : (a : After-access-answer) → let w = a in length (set (put_mid 3 kept w.put_words.new.out a.access-answer.new.regs) step-size a.access-answer.result.value) ≡ access-size
+still-fits : (a : After-access-answer) → let w = a in length (set (put_mid 3 kept w.put_words.new.out a.access-answer.new.regs) step_size a.access-answer.result.value) ≡ access_size
 still-fits a =
     let w = a in
     back_length w.put_words.new.out a.access-answer.new.regs a.access-answer.result (w.put_words.auto.out ∙ w.if-out-ne-ACCESS.false) a.access-answer.auto.regs
 
 pub returns-then-h-ne-HART : goal.returns-then-h-ne-HART
 unfolding put
-returns-then-h-ne-HART c = rw (hart_wrong _ _ access-size c.if-h-ne-HART.true)
+returns-then-h-ne-HART c = rw (hart_wrong _ _ access_size c.if-h-ne-HART.true)
 
 pub returns-then-out-ne-ACCESS : goal.returns-then-out-ne-ACCESS
 unfolding put
-returns-then-out-ne-ACCESS c = rw (out_wrong _ _ access-size c.if-h-ne-HART.false c.if-out-ne-ACCESS.true)
+returns-then-out-ne-ACCESS c = rw (out_wrong _ _ access_size c.if-h-ne-HART.false c.if-out-ne-ACCESS.true)
 
 pub access-answer-requires : goal.access-answer-requires
 access-answer-requires c =
@@ -55,7 +55,7 @@ returns c =
     let fits = w in
     let args = fits.args in
     let came = rw (w.put_words.ensures, lent args.h.now args.out.now fits.if-h-ne-HART.false (omega arith), a.control_of-from.ensures) at a.access-answer.ensures in
-    rw (both_fit _ _ access-size fits.if-h-ne-HART.false fits.if-out-ne-ACCESS.false)
+    rw (both_fit _ _ access_size fits.if-h-ne-HART.false fits.if-out-ne-ACCESS.false)
     (ap (λ (ws : List ℕ). (0, ws))
     (p.put_around.ensures
     ∙ answer-words w.put_words.new.out a.access-answer.new.regs a.access-answer.result (w.put_words.auto.out ∙ fits.if-out-ne-ACCESS.false) a.access-answer.auto.regs

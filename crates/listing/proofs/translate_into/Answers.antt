@@ -13,7 +13,7 @@ use Rattle.engine.proofs.Places.{enough, few}
 use Rattle.engine.proofs.Left.{Left, left_by}
 use Rattle.translate.specs.Translated.{answer}
 use Rattle.translate.proofs.Accesses.{Walking, at_once, walking}
-use Rattle.listing.specs.Listing.{list_at, translation-size, translation_words}
+use Rattle.listing.specs.Listing.{list_at, translation_size, translation_words}
 use Rattle.listing.proofs.Words.{closed, answer-length}
 use Rattle.listing.proofs.translate_into.Goals.{After-walk_into-arg-1, After-walk_into-w}
 use Rattle.listing.proofs.translate_into.Goals as goal
@@ -40,7 +40,7 @@ left w =
 room : (w : After-walk_into-w) → length (ran w).reads ≤ places
 room w = let a = w.args in few (walked-for w) a.base (length a.bytes.now) (look a.base a.bytes.now) (starts-walk w).tables
 
-size : (w : After-walk_into-w) → length w.walk_into-w.new.out ≡ translation-size
+size : (w : After-walk_into-w) → length w.walk_into-w.new.out ≡ translation_size
 size w = (left w).size ∙ w.requires
 
 -- ---- an answer without a walk
