@@ -19,5 +19,5 @@ returns c =
     let fit = both_fit _ _ performed_size c.if-h-ne-HART.false c.if-out-ne-PERFORMED.false in
     let stored = rw c.hart_of.ensures at c.hsv-p.ensures in
     rw fit
-    (ap (λ (x : ℕ × List ℕ). (x.0, x.1, c.hsv-p.new.out)) (rw fit at c.put_performed.ensures)
+    (ap (λ (x : ℕ × List ℕ). (x.0, x.1, c.hsv-p.new.bytes)) (rw fit at c.put_performed.ensures)
     ∙ ap (λ (y : Performed × List ℕ). (0, performed_words y.0, y.1)) stored)
