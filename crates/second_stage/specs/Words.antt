@@ -10,7 +10,6 @@ use Rattle.access.specs.declared.Machine.{Machine}
 use Rattle.stages.specs.Tree.{Walk, done, ask, found}
 use Rattle.stages.specs.Stages.{Result, yields, faults}
 use Rattle.second_stage.specs.declared.Seen.{Seen}
-use Rattle.second_stage.specs.declared.Seen.TheVariants as Seen
 use Rattle.second_stage.specs.declared.Reached.{Reached}
 use Rattle.second_stage.specs.declared.Reached.TheVariants.{At, Failed}
 

@@ -1,4 +1,3 @@
-use Rattle.std.proofs.Common.{rules}
 use Rattle.delivery.proofs.call_cause.Goals as goal
 
 pub returns : goal.returns

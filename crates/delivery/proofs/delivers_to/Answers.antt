@@ -1,4 +1,4 @@
-use Rattle.std.proofs.Common.{◌≡◌, true, ◌&&◌, eqb, rules}
+use Rattle.std.proofs.Common.{◌≡◌, true, ◌&&◌, eqb}
 use Rattle.bits.specs.Field.{has}
 use Rattle.delivery.proofs.delivers_to.Goals as goal
 

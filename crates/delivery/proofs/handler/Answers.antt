@@ -1,4 +1,4 @@
-use Rattle.std.proofs.Common.{arith, rules}
+use Rattle.std.proofs.Common.{arith}
 use Rattle.delivery.proofs.handler.Goals as goal
 
 pub returns-then-has : goal.returns-then-has

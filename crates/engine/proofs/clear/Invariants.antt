@@ -1,9 +1,7 @@
-use mathlib.Core.Path.{◌≡◌, refl, ◌∙◌}
+use mathlib.Core.Path.{◌≡◌}
 use Prim.Native.Nat.{◌-◌, ◌≤◌}
-use native.Mathlib.Omega.{arith}
-use lib.ListN.{length, replicate, length-set}
+use lib.ListN.{length, replicate}
 use lib.Seq.{sets}
-use Rattle.engine.proofs.Zeros.{zero-stored, zeros_all}
 use Rattle.engine.proofs.clear.Given as goal
 
 abbrev pub invariant-loop-i : goal.invariant-loop-i

@@ -1,4 +1,4 @@
-use Rattle.std.proofs.Common.{sym, ap, ◌∙◌, arith, rules}
+use Rattle.std.proofs.Common.{sym, ap, ◌∙◌, arith}
 use Rattle.image.specs.Image.{entry}
 use Rattle.image.specs.declared.Entry.TheVariants.{Value}
 use Rattle.image.proofs.Tests.{within_facts}

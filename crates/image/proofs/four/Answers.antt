@@ -1,4 +1,4 @@
-use Rattle.std.proofs.Common.{◌∙◌, arith, rules}
+use Rattle.std.proofs.Common.{◌∙◌, arith}
 use Rattle.image.proofs.Joined.{four_joined}
 use Rattle.image.proofs.four.Goals as goal
 

@@ -1,4 +1,4 @@
-use Rattle.std.proofs.Common.{◌∙◌, arith, rules}
+use Rattle.std.proofs.Common.{◌∙◌, arith}
 use Rattle.image.proofs.Joined.{joined}
 use Rattle.image.proofs.load.Goals as goal
 

@@ -1,4 +1,4 @@
-use Rattle.std.proofs.Common.{ℕ, ◌+◌, ◌-◌, ◌^◌, ltb, arith, rules, ltb-false, ltb-true, le-ltb, lt-ltb}
+use Rattle.std.proofs.Common.{ℕ, ◌+◌, ◌-◌, ◌^◌, ltb, arith, ltb-false, ltb-true, le-ltb, lt-ltb}
 use Rattle.image.specs.Image.{unfit}
 use Rattle.image.proofs.Tests.{same}
 use Rattle.image.proofs.refused.Goals as goal

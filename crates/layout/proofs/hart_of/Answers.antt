@@ -1,10 +1,8 @@
-use Prim.Native.Nat.{◌+◌, ◌-◌, ◌≤◌}
-use mathlib.Core.Path.{◌≡◌, refl, sym, ◌∙◌}
+use Prim.Native.Nat.{◌+◌}
+use mathlib.Core.Path.{refl, sym, ◌∙◌}
 use native.Mathlib.Omega.{arith}
-use lib.ListN.{length, drop, length-set, length-drop}
-use lib.Seq.{sets}
+use lib.ListN.{drop, length-set, length-drop}
 use borrow.Author.Tests.{ne_eqb}
-use Rattle.registers.specs.Places.{kept}
 use Rattle.layout.specs.Layout.{hart_of}
 use Rattle.layout.proofs.Words.{sets_all, copied, copied_all}
 use Rattle.layout.proofs.hart_of.Goals as goal

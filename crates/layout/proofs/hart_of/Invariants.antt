@@ -1,12 +1,8 @@
 use Prim.Native.Nat.{◌+◌, ◌-◌, ◌≤◌}
-use mathlib.Core.Path.{◌≡◌, refl, sym, ◌∙◌}
-use native.Mathlib.Omega.{arith}
-use lib.ListN.{length, drop, length-set, length-drop}
+use mathlib.Core.Path.{◌≡◌}
+use lib.ListN.{length, drop}
 use lib.Seq.{sets}
-use borrow.Author.Tests.{ne_eqb}
 use Rattle.registers.specs.Places.{kept}
-use Rattle.layout.specs.Layout.{hart_of}
-use Rattle.layout.proofs.Words.{sets_all, copied, copied_all}
 use Rattle.layout.proofs.hart_of.Given as goal
 
 abbrev pub invariant-loop-i : goal.invariant-loop-i

@@ -1,14 +1,9 @@
-use Prim.Native.Nat.{ℕ, ◌+◌, ◌-◌, ◌≤◌}
-use mathlib.Core.Path.{◌≡◌, refl, ◌∙◌, ap}
-use mathlib.Core.List.{List}
-use native.Mathlib.Omega.{arith}
-use lib.ListN.{length, drop, length-set}
+use Prim.Native.Nat.{◌+◌, ◌-◌, ◌≤◌}
+use mathlib.Core.Path.{◌≡◌}
+use lib.ListN.{length, drop}
 use lib.Seq.{sets}
 use Rattle.registers.specs.Places.{kept}
-use Rattle.layout.specs.Layout.{hart_size, words}
-use Rattle.layout.specs.Taken.{put}
-use Rattle.layout.proofs.Lengths.{hart_wrong, out_wrong, both_fit}
-use Rattle.layout.proofs.Words.{sets_all, copied, copied_all}
+use Rattle.layout.specs.Layout.{hart_size}
 use Rattle.layout.proofs.put_hart.Given as goal
 
 abbrev pub invariant-loop-i : goal.invariant-loop-i

@@ -1,9 +1,7 @@
-use Prim.Native.Nat.{◌-◌, ◌+◌, ◌≤◌, ◌%◌}
-use mathlib.Core.Path.{◌≡◌, refl, ◌∙◌}
+use Prim.Native.Nat.{◌+◌}
+use mathlib.Core.Path.{refl, ◌∙◌}
 use native.Mathlib.Omega.{arith}
-use lib.ListN.{length, drop, set, length-set}
-use lib.Seq.{sets}
-use Rattle.layout.specs.Layout.{hart_size}
+use lib.ListN.{set, length-set}
 use Rattle.layout.proofs.Words.{copied, copied_all}
 use Rattle.layout.proofs.put_words.Goals as goal
 

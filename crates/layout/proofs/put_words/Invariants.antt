@@ -1,10 +1,8 @@
-use Prim.Native.Nat.{◌-◌, ◌+◌, ◌≤◌, ◌%◌}
-use mathlib.Core.Path.{◌≡◌, refl, ◌∙◌}
-use native.Mathlib.Omega.{arith}
-use lib.ListN.{length, drop, set, length-set}
+use Prim.Native.Nat.{◌-◌, ◌≤◌, ◌%◌}
+use mathlib.Core.Path.{◌≡◌}
+use lib.ListN.{length, drop}
 use lib.Seq.{sets}
 use Rattle.layout.specs.Layout.{hart_size}
-use Rattle.layout.proofs.Words.{copied, copied_all}
 use Rattle.layout.proofs.put_words.Given as goal
 
 abbrev pub invariant-loop-i : goal.invariant-loop-i

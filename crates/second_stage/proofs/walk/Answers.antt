@@ -1,9 +1,8 @@
 use mathlib.Core.Path.{sym, ◌∙◌}
 use native.Mathlib.Omega.{arith}
-use borrow.Author.Tests.{not-true, not-false}
 use Rattle.stages.specs.Stages.{look, machine}
 use Rattle.second_stage.specs.Words.{Sees}
-use Rattle.second_stage.proofs.Descents.{Descends, off, too_large, from-root, outside, bad, leaf, bounds, further}
+use Rattle.second_stage.proofs.Descents.{off, too_large, from-root, outside, bad, leaf, bounds, further}
 use Rattle.second_stage.proofs.walk.Goals.{In-Entry}
 use Rattle.second_stage.proofs.walk.Goals as goal
 

@@ -1,9 +1,5 @@
-use mathlib.Core.Path.{sym, ◌∙◌}
-use native.Mathlib.Omega.{arith}
-use borrow.Author.Tests.{not-true, not-false}
-use Rattle.stages.specs.Stages.{look, machine}
-use Rattle.second_stage.specs.Words.{Sees}
-use Rattle.second_stage.proofs.Descents.{Descends, off, too_large, from-root, outside, bad, leaf, bounds, further}
+use Rattle.stages.specs.Stages.{look}
+use Rattle.second_stage.proofs.Descents.{Descends}
 use Rattle.second_stage.proofs.walk.Given as goal
 
 abbrev pub invariant-loop-j : goal.invariant-loop-j

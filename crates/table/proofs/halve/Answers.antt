@@ -1,12 +1,12 @@
-use Prim.Native.Nat.{◌+◌, ◌-◌, ◌≤◌}
+use Prim.Native.Nat.{◌-◌}
 use mathlib.Core.Path.{◌≡◌, refl, sym, ◌∙◌}
 use mathlib.Core.List.{◌++◌}
 use native.Mathlib.Omega.{arith}
-use lib.ListN.{replicate, length, get_or}
+use lib.ListN.{replicate, get_or}
 use borrow.Author.Rules.{rules}
-use Rattle.table.specs.Search.{looks, none, row_at, after, halving, told_from}
+use Rattle.table.specs.Search.{none, row_at, halving}
 use Rattle.table.proofs.Halving.{middle}
-use Rattle.table.proofs.Going.{Going, room, over, hit, on-above, on_below, two_looks}
+use Rattle.table.proofs.Going.{room, over, hit, on-above, on_below, two_looks}
 use Rattle.table.proofs.Parts.{part_at}
 use Rattle.table.proofs.halve.Goals.{After-row-1}
 use Rattle.table.proofs.halve.Goals as goal

@@ -1,12 +1,9 @@
-use Prim.Native.Nat.{◌+◌, ◌-◌, ◌≤◌}
-use mathlib.Core.Path.{◌≡◌, refl, sym, ◌∙◌}
+use Prim.Native.Nat.{◌-◌, ◌≤◌}
+use mathlib.Core.Path.{◌≡◌}
 use mathlib.Core.List.{◌++◌}
-use native.Mathlib.Omega.{arith}
-use lib.ListN.{replicate, length, get_or}
-use Rattle.table.specs.Search.{looks, none, row_at, after, halving, told_from}
-use Rattle.table.proofs.Halving.{middle}
-use Rattle.table.proofs.Going.{Going, room, over, hit, on-above, on_below, two_looks}
-use Rattle.table.proofs.Parts.{part_at}
+use lib.ListN.{replicate, length}
+use Rattle.table.specs.Search.{looks, none, after, halving, told_from}
+use Rattle.table.proofs.Going.{Going}
 use Rattle.table.proofs.halve.Given as goal
 
 abbrev pub invariant-loop-low : goal.invariant-loop-low

@@ -1,10 +1,8 @@
 use mathlib.Core.Path.{◌≡◌, ap, ◌∙◌}
-use Prim.Native.Nat.{◌+◌, ◌*◌, ◌-◌, ◌≤◌}
+use Prim.Native.Nat.{◌+◌, ◌*◌}
 use native.Mathlib.Omega.{arith}
-use lib.ListN.{length, drop, length-set}
-use lib.Seq.{sets}
+use lib.ListN.{length, length-set}
 use Rattle.stages.specs.Listed.{places}
-use Rattle.walk.specs.Walked.{unpack}
 use Rattle.walk.proofs.Packs.{packs, packs_all, filled}
 use Rattle.walk.proofs.pack.Goals as goal
 

@@ -1,11 +1,9 @@
-use mathlib.Core.Path.{◌≡◌, ap, ◌∙◌}
-use Prim.Native.Nat.{◌+◌, ◌*◌, ◌-◌, ◌≤◌}
-use native.Mathlib.Omega.{arith}
-use lib.ListN.{length, drop, length-set}
+use mathlib.Core.Path.{◌≡◌}
+use Prim.Native.Nat.{◌*◌, ◌-◌, ◌≤◌}
+use lib.ListN.{length, drop}
 use lib.Seq.{sets}
 use Rattle.stages.specs.Listed.{places}
 use Rattle.walk.specs.Walked.{unpack}
-use Rattle.walk.proofs.Packs.{packs, packs_all, filled}
 use Rattle.walk.proofs.pack.Given as goal
 
 abbrev pub invariant-loop-i : goal.invariant-loop-i

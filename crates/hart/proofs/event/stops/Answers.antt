@@ -1,5 +1,4 @@
-use mathlib.Core.Bool.{not}
-use Rattle.std.proofs.Common.{ap, sym, ◌∙◌, eq-eqb, ne_eqb}
+use Rattle.std.proofs.Common.{eq-eqb, ne_eqb}
 use Rattle.hart.proofs.event.stops.Goals as goal
 
 pub returns-then-not-passed : goal.returns-then-not-passed

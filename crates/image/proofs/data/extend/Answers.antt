@@ -1,4 +1,4 @@
-use Rattle.std.proofs.Common.{arith, rules}
+use Rattle.std.proofs.Common.{arith}
 use Rattle.image.proofs.Bytes.{kept, grows}
 use Rattle.image.proofs.data.extend.Goals as goal
 

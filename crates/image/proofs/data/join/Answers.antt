@@ -1,6 +1,5 @@
-use Rattle.std.proofs.Common.{◌≡◌, ◌+◌, ◌-◌, ◌*◌, ◌^◌, ◌<◌, ◌≤◌, take, drop, add-zero, arith, pow_mono, rules}
+use Rattle.std.proofs.Common.{◌≡◌, ◌-◌, ◌*◌, add-zero, arith, pow_mono}
 use native.Mathlib.Nat.{sub-zero}
-use Rattle.image.specs.Data.{little}
 use Rattle.image.proofs.Bytes.{joins}
 use Rattle.image.proofs.data.join.Goals as goal
 

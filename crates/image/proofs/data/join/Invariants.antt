@@ -1,7 +1,5 @@
-use Rattle.std.proofs.Common.{◌≡◌, ◌+◌, ◌-◌, ◌*◌, ◌^◌, ◌<◌, ◌≤◌, take, drop, add-zero, arith, pow_mono, rules}
-use native.Mathlib.Nat.{sub-zero}
+use Rattle.std.proofs.Common.{◌≡◌, ◌+◌, ◌-◌, ◌*◌, ◌^◌, ◌<◌, ◌≤◌, take, drop}
 use Rattle.image.specs.Data.{little}
-use Rattle.image.proofs.Bytes.{joins}
 use Rattle.image.proofs.data.join.Given as goal
 
 abbrev pub invariant-loop-left : goal.invariant-loop-left

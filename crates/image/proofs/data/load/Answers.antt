@@ -1,4 +1,4 @@
-use Rattle.std.proofs.Common.{◌∙◌, arith, rules}
+use Rattle.std.proofs.Common.{◌∙◌, arith}
 use Rattle.image.specs.Data.{loaded}
 use Rattle.image.proofs.Tests.{within_facts}
 use Rattle.image.proofs.data.load.Goals as goal

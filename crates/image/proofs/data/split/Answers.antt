@@ -1,7 +1,5 @@
-use Rattle.std.proofs.Common.{◌≡◌, ◌+◌, ◌-◌, ◌%◌, ◌≤◌, length, refl, ◌∙◌, add-zero, arith, length-set}
+use Rattle.std.proofs.Common.{◌≡◌, ◌+◌, ◌-◌, ◌%◌, refl, ◌∙◌, add-zero, arith, length-set}
 use native.Mathlib.Nat.{sub-zero}
-use lib.Seq.{sets}
-use Rattle.image.specs.Data.{low_bytes}
 use Rattle.image.proofs.Bytes.{splits}
 use Rattle.image.proofs.data.split.Goals as goal
 

@@ -1,8 +1,6 @@
-use Rattle.std.proofs.Common.{◌≡◌, ◌+◌, ◌-◌, ◌%◌, ◌≤◌, length, refl, ◌∙◌, add-zero, arith, length-set}
-use native.Mathlib.Nat.{sub-zero}
+use Rattle.std.proofs.Common.{◌≡◌, ◌+◌, ◌-◌, ◌≤◌, length}
 use lib.Seq.{sets}
 use Rattle.image.specs.Data.{low_bytes}
-use Rattle.image.proofs.Bytes.{splits}
 use Rattle.image.proofs.data.split.Given as goal
 
 abbrev pub invariant-loop-i : goal.invariant-loop-i

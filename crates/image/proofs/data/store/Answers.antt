@@ -1,6 +1,5 @@
-use Rattle.std.proofs.Common.{◌-◌, length, ap, ◌∙◌, arith}
-use lib.Seq.{length-sets}
-use Rattle.image.specs.Data.{low_bytes, stored}
+use Rattle.std.proofs.Common.{arith}
+use Rattle.image.specs.Data.{stored}
 use Rattle.image.proofs.Tests.{within_facts}
 use Rattle.image.proofs.data.store.Goals as goal
 

@@ -1,4 +1,4 @@
-use Rattle.std.proofs.Common.{sym, ◌∙◌, rules}
+use Rattle.std.proofs.Common.{sym, ◌∙◌}
 use Rattle.hart.specs.Access.{access}
 use Rattle.table.proofs.Listed.{lookup-found}
 use Rattle.hart.proofs.control.Control.access.Goals as goal

@@ -1,4 +1,4 @@
-use Rattle.std.proofs.Common.{◌≡◌, eqb, sym, ap, ◌∙◌, rules}
+use Rattle.std.proofs.Common.{◌≡◌, eqb, sym, ap, ◌∙◌}
 use Rattle.registers.specs.Registers.{at}
 use Rattle.registers.proofs.Rows.{reaches-home, reaches-shift, reaches-writes}
 use Rattle.table.specs.declared.Row.{Row}

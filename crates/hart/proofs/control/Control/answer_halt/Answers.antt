@@ -1,5 +1,4 @@
 use Rattle.hart.proofs.Stopped.{answered}
-use Rattle.std.proofs.Common.{rules}
 use Rattle.hart.proofs.control.Control.answer_halt.Goals as goal
 
 pub returns : goal.returns

@@ -1,5 +1,4 @@
 use Rattle.hart.specs.Deliver.{delivered}
-use Rattle.std.proofs.Common.{rules}
 use Rattle.hart.proofs.control.Control.deliver.Goals as goal
 
 pub returns : goal.returns

@@ -1,4 +1,4 @@
-use Rattle.std.proofs.Common.{arith, length-set, rules}
+use Rattle.std.proofs.Common.{arith, length-set}
 use Rattle.hart.specs.Deliver.{delivered_m}
 use Rattle.hart.proofs.control.Control.deliver_m.Goals as goal
 

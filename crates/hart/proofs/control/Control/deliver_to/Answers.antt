@@ -1,4 +1,3 @@
-use Rattle.std.proofs.Common.{rules}
 use Rattle.hart.proofs.control.Control.deliver_to.Goals as goal
 
 pub returns-in-M : goal.returns-in-M

@@ -1,5 +1,4 @@
 use Rattle.hart.specs.Deliver.{delivered_vs}
-use Rattle.std.proofs.Common.{rules}
 use Rattle.hart.proofs.control.Control.deliver_vs.Goals as goal
 
 pub returns : goal.returns

@@ -1,4 +1,4 @@
-use Rattle.std.proofs.Common.{ℕ, List, ap, rules}
+use Rattle.std.proofs.Common.{ℕ, List, ap}
 use Rattle.table.specs.Table.{view_of}
 use Rattle.hart.specs.Event.{done, next}
 use Rattle.hart.specs.Access.{answer, seen, written}

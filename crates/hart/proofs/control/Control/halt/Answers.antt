@@ -1,4 +1,3 @@
-use Rattle.std.proofs.Common.{rules}
 use Rattle.hart.proofs.control.Control.halt.Goals as goal
 
 pub returns-then-refuses : goal.returns-then-refuses

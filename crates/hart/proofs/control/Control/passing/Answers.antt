@@ -1,4 +1,4 @@
-use Rattle.std.proofs.Common.{◌∙◌, rules}
+use Rattle.std.proofs.Common.{◌∙◌}
 use Rattle.hart.specs.Lent.{on}
 use Rattle.hart.proofs.Stopped.{goes, halts}
 use Rattle.hart.proofs.control.Control.passing.Goals as goal

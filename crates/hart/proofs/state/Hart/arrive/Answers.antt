@@ -1,4 +1,3 @@
-use Rattle.std.proofs.Common.{rules}
 use Rattle.hart.proofs.state.Hart.arrive.Goals as goal
 
 pub returns-in-At : goal.returns-in-At

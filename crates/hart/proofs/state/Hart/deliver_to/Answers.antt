@@ -1,4 +1,4 @@
-use Rattle.std.proofs.Common.{◌∙◌, rules}
+use Rattle.std.proofs.Common.{◌∙◌}
 use Rattle.hart.proofs.state.Hart.deliver_to.Goals as goal
 
 pub returns : goal.returns

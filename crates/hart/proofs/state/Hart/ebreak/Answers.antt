@@ -1,5 +1,4 @@
 use Rattle.hart.specs.Trap.{ebreak}
-use Rattle.std.proofs.Common.{rules}
 use Rattle.hart.proofs.state.Hart.ebreak.Goals as goal
 
 pub returns : goal.returns

@@ -1,5 +1,4 @@
 use Rattle.hart.specs.Trap.{ecall}
-use Rattle.std.proofs.Common.{rules}
 use Rattle.hart.proofs.state.Hart.ecall.Goals as goal
 
 pub returns : goal.returns

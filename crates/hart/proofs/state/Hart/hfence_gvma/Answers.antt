@@ -1,5 +1,4 @@
 use Rattle.hart.specs.Wait.{hfence_gvma}
-use Rattle.std.proofs.Common.{rules}
 use Rattle.hart.proofs.state.Hart.hfence_gvma.Goals as goal
 
 pub returns : goal.returns

@@ -1,5 +1,4 @@
-use Rattle.std.proofs.Common.{sym, ◌∙◌, rules}
-use borrow.Author.Tests.{not-true, not-false}
+use Rattle.std.proofs.Common.{sym, ◌∙◌}
 use Rattle.hart.specs.Guest.{hsv}
 use Rattle.hart.proofs.Reached.{done-inside}
 use Rattle.hart.proofs.state.Hart.hsv.Goals as goal

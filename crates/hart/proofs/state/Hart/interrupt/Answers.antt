@@ -1,6 +1,5 @@
 use Rattle.hart.specs.Interrupt.{interrupt}
 use Rattle.hart.proofs.Stopped.{goes, halts}
-use Rattle.std.proofs.Common.{rules}
 use Rattle.hart.proofs.state.Hart.interrupt.Goals as goal
 
 pub returns-in-Goes : goal.returns-in-Goes

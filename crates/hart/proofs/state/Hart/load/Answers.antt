@@ -1,5 +1,4 @@
-use Rattle.std.proofs.Common.{sym, ◌∙◌, rules}
-use borrow.Author.Tests.{not-true, not-false}
+use Rattle.std.proofs.Common.{sym, ◌∙◌}
 use Rattle.access.proofs.Widths.{at_most_eight}
 use Rattle.hart.specs.Guest.{load}
 use Rattle.hart.proofs.Reached.{done-inside}

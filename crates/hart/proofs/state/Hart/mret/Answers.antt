@@ -1,6 +1,5 @@
 use Rattle.hart.specs.Return.{mret}
 use Rattle.hart.proofs.Stopped.{goes, halts}
-use Rattle.std.proofs.Common.{rules}
 use Rattle.hart.proofs.state.Hart.mret.Goals as goal
 
 pub returns-in-Goes : goal.returns-in-Goes

@@ -1,5 +1,4 @@
 use Rattle.hart.specs.Hart.{passes}
-use Rattle.std.proofs.Common.{rules}
 use Rattle.hart.proofs.state.Hart.passes.Goals as goal
 
 pub returns : goal.returns

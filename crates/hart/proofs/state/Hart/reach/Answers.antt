@@ -1,4 +1,4 @@
-use Rattle.std.proofs.Common.{sym, ◌∙◌, rules}
+use Rattle.std.proofs.Common.{sym, ◌∙◌}
 use Rattle.hart.proofs.Reached.{goes_own, goes-reach, halts_reach}
 use Rattle.hart.proofs.state.Hart.reach.Goals as goal
 

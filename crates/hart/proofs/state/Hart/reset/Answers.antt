@@ -1,4 +1,3 @@
-use Rattle.std.proofs.Common.{rules}
 use Rattle.hart.proofs.state.Hart.reset.Goals as goal
 
 pub returns : goal.returns

@@ -1,5 +1,4 @@
 use Rattle.hart.specs.Return.{returned_hs}
-use Rattle.std.proofs.Common.{rules}
 use Rattle.hart.proofs.state.Hart.return_hs.Goals as goal
 
 pub returns : goal.returns

@@ -1,5 +1,4 @@
 use Rattle.hart.specs.Return.{returned_m}
-use Rattle.std.proofs.Common.{rules}
 use Rattle.hart.proofs.state.Hart.return_m.Goals as goal
 
 pub returns : goal.returns

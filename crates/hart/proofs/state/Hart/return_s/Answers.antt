@@ -1,4 +1,4 @@
-use Rattle.std.proofs.Common.{rules, eq-eqb, ne_eqb}
+use Rattle.std.proofs.Common.{eq-eqb, ne_eqb}
 use Rattle.hart.proofs.state.Hart.return_s.Goals as goal
 
 pub returns-then-self-eq1 : goal.returns-then-self-eq1

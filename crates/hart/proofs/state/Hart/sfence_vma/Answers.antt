@@ -1,5 +1,4 @@
 use Rattle.hart.specs.Wait.{sfence_vma}
-use Rattle.std.proofs.Common.{rules}
 use Rattle.hart.proofs.state.Hart.sfence_vma.Goals as goal
 
 pub returns : goal.returns

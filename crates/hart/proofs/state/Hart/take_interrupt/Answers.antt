@@ -1,4 +1,3 @@
-use Rattle.std.proofs.Common.{rules}
 use Rattle.hart.proofs.state.Hart.take_interrupt.Goals as goal
 
 pub returns-in-To : goal.returns-in-To

@@ -1,5 +1,4 @@
 use Rattle.hart.specs.Trap.{trap}
-use Rattle.std.proofs.Common.{rules}
 use Rattle.hart.proofs.state.Hart.trap.Goals as goal
 
 pub returns : goal.returns

@@ -1,5 +1,4 @@
 use Rattle.hart.proofs.Stopped.{goes, halts}
-use Rattle.std.proofs.Common.{rules}
 use Rattle.hart.proofs.state.Hart.trapping.Goals as goal
 
 pub returns-in-Goes : goal.returns-in-Goes

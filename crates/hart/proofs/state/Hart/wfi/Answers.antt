@@ -1,5 +1,4 @@
 use Rattle.hart.specs.Wait.{wfi}
-use Rattle.std.proofs.Common.{rules}
 use Rattle.hart.proofs.state.Hart.wfi.Goals as goal
 
 pub returns : goal.returns
