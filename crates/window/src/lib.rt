@@ -5,6 +5,8 @@ ghost use Rattle.std.specs.Prelude.{◌≡◌};
 ghost use Rattle.image.specs.Image.{entry};
 ghost use Rattle.window.specs.Window.{translation};
 
+mod thin;
+
 use hart::state::Hart;
 use image::Entry;
 use rules::Kind;
