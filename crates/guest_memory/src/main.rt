@@ -6,8 +6,8 @@
 use hart::event::Outcome;
 use hart::guest::Performed;
 use hart::state::Hart;
-use libc::STDOUT_FILENO;
 use registers::places;
+use std::io;
 
 const BASE: u64 = 0x8000_0000;
 
@@ -52,13 +52,12 @@ const ENTRIES: [u64; 17] = [
     0xA008 << AT | 0xFFF5_0513,
 ];
 
-fn text(s: &[u8]) {
-    io::write_all(STDOUT_FILENO, s);
+fn text(rt: &impl Print, s: &[u8]) -> io::Result<()> {
+    rt.write_all(s)
 }
 
-fn number(n: u64) {
-    text(b" ");
-    io::print_hex(STDOUT_FILENO, n, 1);
+fn number(rt: &impl Print, n: u64) -> io::Result<()> {
+    print!(rt; " {n:x}")
 }
 
 // A form's word for a width.
@@ -71,66 +70,83 @@ fn word(form: u32, width: u64) -> u32 {
     }
 }
 
-fn write_trap(h: Hart, cause: u64) {
-    text(b" trapped");
-    number(cause);
-    number(h.regs[places::MTVAL]);
-    number(h.regs[places::MTVAL2]);
-    number(h.regs[places::MTINST]);
+fn write_trap(rt: &impl Print, h: Hart, cause: u64) -> io::Result<()> {
+    text(rt, b" trapped")?;
+    number(rt, cause)?;
+    number(rt, h.regs[places::MTVAL])?;
+    number(rt, h.regs[places::MTVAL2])?;
+    number(rt, h.regs[places::MTINST])
 }
 
-fn write(p: Performed) {
+fn write(rt: &impl Print, p: Performed) -> io::Result<()> {
     let hart = p.hart;
     let outcome = p.outcome;
     match outcome {
         Outcome::Done => {
-            text(b" done");
-            number(p.value);
+            text(rt, b" done")?;
+            number(rt, p.value)?;
         }
-        Outcome::Trapped(cause) => write_trap(hart, cause),
+        Outcome::Trapped(cause) => write_trap(rt, hart, cause)?,
         Outcome::Refused(n) => {
-            text(b" refused");
-            number(n);
+            text(rt, b" refused")?;
+            number(rt, n)?;
         }
         // None of these events is one.
-        Outcome::Interrupted(n) => {}
+        Outcome::Interrupted(_) => {}
     }
-    text(b" reads");
-    number(p.count as u64);
-    text(b"\n");
+    text(rt, b" reads")?;
+    number(rt, p.count as u64)?;
+    text(rt, b"\n")
 }
 
-fn hlv(h: Hart, image: &[u8], width: u64, signed: bool, address: u64) {
-    text(b"hlv");
-    number(width);
-    number(signed as u64);
-    number(address);
+fn hlv(
+    rt: &impl Print,
+    h: Hart,
+    image: &[u8],
+    width: u64,
+    signed: bool,
+    address: u64,
+) -> io::Result<()> {
+    text(rt, b"hlv")?;
+    number(rt, width)?;
+    number(rt, signed as u64)?;
+    number(rt, address)?;
     let form = if signed { HLV } else { HLVU };
-    write(h.hlv(BASE, image, width, signed, address, word(form, width)));
+    let performed = h.hlv(BASE, image, width, signed, address, word(form, width));
+    write(rt, performed)
 }
 
-fn hlvx(h: Hart, image: &[u8], width: u64, address: u64) {
-    text(b"hlvx");
-    number(width);
-    number(address);
-    write(h.hlvx(BASE, image, width, address, word(HLVX, width)));
+fn hlvx(rt: &impl Print, h: Hart, image: &[u8], width: u64, address: u64) -> io::Result<()> {
+    text(rt, b"hlvx")?;
+    number(rt, width)?;
+    number(rt, address)?;
+    let performed = h.hlvx(BASE, image, width, address, word(HLVX, width));
+    write(rt, performed)
 }
 
-fn hsv(h: Hart, image: &mut [u8], width: u64, address: u64, value: u64) {
-    text(b"hsv");
-    number(width);
-    number(address);
-    number(value);
-    write(h.hsv(BASE, &mut *image, width, address, value, word(HSV, width)));
+fn hsv(
+    rt: &impl Print,
+    h: Hart,
+    image: &mut [u8],
+    width: u64,
+    address: u64,
+    value: u64,
+) -> io::Result<()> {
+    text(rt, b"hsv")?;
+    number(rt, width)?;
+    number(rt, address)?;
+    number(rt, value)?;
+    let performed = h.hsv(BASE, image, width, address, value, word(HSV, width));
+    write(rt, performed)
 }
 
 // In HS, with a guest whose tables are those of the image; writes which it is.
-fn hypervisor(spvp: bool, sum: bool) -> Hart {
-    text(b"spvp");
-    number(spvp as u64);
-    text(b" sum");
-    number(sum as u64);
-    text(b"\n");
+fn hypervisor(rt: &impl Print, spvp: bool, sum: bool) -> io::Result<Hart> {
+    text(rt, b"spvp")?;
+    number(rt, spvp as u64)?;
+    text(rt, b" sum")?;
+    number(rt, sum as u64)?;
+    text(rt, b"\n")?;
     let mut h = Hart::reset(0, 1, 0x1000);
     h.regs[places::VSATP] = 0x8000_0000_0000_0006;
     h.regs[places::HGATP] = 0x8000_0000_0008_0000;
@@ -140,108 +156,104 @@ fn hypervisor(spvp: bool, sum: bool) -> Hart {
     if sum {
         h.regs[places::VSSTATUS] = h.regs[places::VSSTATUS] | SUM;
     }
-    h
+    Ok(h)
 }
 
 // Eight bytes stored, and loaded at each width, signed and unsigned.
-fn widths(h: Hart, image: &mut [u8]) {
-    hsv(h, &mut *image, 8, 0x1010, 0x8182_8384_8586_8788);
-    hlv(h, &*image, 8, true, 0x1010);
-    hlv(h, &*image, 4, true, 0x1010);
-    hlv(h, &*image, 4, false, 0x1014);
-    hlv(h, &*image, 2, true, 0x1012);
-    hlv(h, &*image, 2, false, 0x1016);
-    hlv(h, &*image, 1, true, 0x1013);
-    hlv(h, &*image, 1, false, 0x1017);
+fn widths(rt: &impl Print, h: Hart, image: &mut [u8]) -> io::Result<()> {
+    hsv(rt, h, image, 8, 0x1010, 0x8182_8384_8586_8788)?;
+    hlv(rt, h, image, 8, true, 0x1010)?;
+    hlv(rt, h, image, 4, true, 0x1010)?;
+    hlv(rt, h, image, 4, false, 0x1014)?;
+    hlv(rt, h, image, 2, true, 0x1012)?;
+    hlv(rt, h, image, 2, false, 0x1016)?;
+    hlv(rt, h, image, 1, true, 0x1013)?;
+    hlv(rt, h, image, 1, false, 0x1017)
 }
 
 // Stores of fewer: the low bytes of the value, among what was there and what lies beside it.
-fn parts(h: Hart, image: &mut [u8]) {
-    hsv(h, &mut *image, 4, 0x1014, 0x0102_0304_0506_0708);
-    hlv(h, &*image, 8, true, 0x1010);
-    hsv(h, &mut *image, 2, 0x1012, 0x0102_0304_0506_0708);
-    hlv(h, &*image, 8, true, 0x1010);
-    hsv(h, &mut *image, 1, 0x1011, 0x0102_0304_0506_0708);
-    hlv(h, &*image, 8, true, 0x1010);
-    hlv(h, &*image, 2, true, 0x1012);
-    hlv(h, &*image, 8, true, 0x1008);
-    hlv(h, &*image, 8, true, 0x1018);
+fn parts(rt: &impl Print, h: Hart, image: &mut [u8]) -> io::Result<()> {
+    hsv(rt, h, image, 4, 0x1014, 0x0102_0304_0506_0708)?;
+    hlv(rt, h, image, 8, true, 0x1010)?;
+    hsv(rt, h, image, 2, 0x1012, 0x0102_0304_0506_0708)?;
+    hlv(rt, h, image, 8, true, 0x1010)?;
+    hsv(rt, h, image, 1, 0x1011, 0x0102_0304_0506_0708)?;
+    hlv(rt, h, image, 8, true, 0x1010)?;
+    hlv(rt, h, image, 2, true, 0x1012)?;
+    hlv(rt, h, image, 8, true, 0x1008)?;
+    hlv(rt, h, image, 8, true, 0x1018)
 }
 
 // HLVX reads an execute-only page, where HLV and HSV fault, and no page without X.
-fn code(h: Hart, image: &mut [u8]) {
-    hlvx(h, &*image, 4, 0x2008);
-    hlvx(h, &*image, 2, 0x200A);
-    hlvx(h, &*image, 8, 0x2008);
-    hlvx(h, &*image, 4, 0x1010);
-    hlv(h, &*image, 4, true, 0x2008);
-    hsv(h, &mut *image, 4, 0x2008, 0x13);
-    hlvx(h, &*image, 4, 0x2008);
+fn code(rt: &impl Print, h: Hart, image: &mut [u8]) -> io::Result<()> {
+    hlvx(rt, h, image, 4, 0x2008)?;
+    hlvx(rt, h, image, 2, 0x200A)?;
+    hlvx(rt, h, image, 8, 0x2008)?;
+    hlvx(rt, h, image, 4, 0x1010)?;
+    hlv(rt, h, image, 4, true, 0x2008)?;
+    hsv(rt, h, image, 4, 0x2008, 0x13)?;
+    hlvx(rt, h, image, 4, 0x2008)
 }
 
 // Misaligned; a fault of the first stage, of the second, and of the second on the way to a guest entry.
-fn faults(h: Hart, image: &mut [u8]) {
-    hlv(h, &*image, 8, true, 0x100C);
-    hsv(h, &mut *image, 8, 0x100C, 0);
-    hlv(h, &*image, 8, true, 0x4010);
-    hsv(h, &mut *image, 8, 0x4010, 0);
-    hlv(h, &*image, 8, true, 0x5008);
-    hsv(h, &mut *image, 8, 0x5008, 0);
-    hlv(h, &*image, 8, true, 0x4020_0008);
-    hlvx(h, &*image, 4, 0x4020_0008);
-    hsv(h, &mut *image, 8, 0x4020_0008, 0);
+fn faults(rt: &impl Print, h: Hart, image: &mut [u8]) -> io::Result<()> {
+    hlv(rt, h, image, 8, true, 0x100C)?;
+    hsv(rt, h, image, 8, 0x100C, 0)?;
+    hlv(rt, h, image, 8, true, 0x4010)?;
+    hsv(rt, h, image, 8, 0x4010, 0)?;
+    hlv(rt, h, image, 8, true, 0x5008)?;
+    hsv(rt, h, image, 8, 0x5008, 0)?;
+    hlv(rt, h, image, 8, true, 0x4020_0008)?;
+    hlvx(rt, h, image, 4, 0x4020_0008)?;
+    hsv(rt, h, image, 8, 0x4020_0008, 0)
 }
 
 // An entry stored into the guest's table: the next walk goes by it.
-fn table(h: Hart, image: &mut [u8]) {
-    hsv(h, &mut *image, 8, 0x6020, 0x24C7);
-    hlv(h, &*image, 8, true, 0x6020);
-    hlv(h, &*image, 8, true, 0x4010);
+fn table(rt: &impl Print, h: Hart, image: &mut [u8]) -> io::Result<()> {
+    hsv(rt, h, image, 8, 0x6020, 0x24C7)?;
+    hlv(rt, h, image, 8, true, 0x6020)?;
+    hlv(rt, h, image, 8, true, 0x4010)
 }
 
 // The U page, with SPVP and SUM both ways.
-fn rights(image: &mut [u8]) {
-    let vs = hypervisor(true, false);
-    hlv(vs, &*image, 8, true, 0x3008);
-    hsv(vs, &mut *image, 8, 0x3008, 0x33);
-    let sum = hypervisor(true, true);
-    hsv(sum, &mut *image, 8, 0x3008, 0x55);
-    hlv(sum, &*image, 8, true, 0x3008);
-    let vu = hypervisor(false, true);
-    hlv(vu, &*image, 8, true, 0x3008);
-    hlv(vu, &*image, 8, true, 0x1010);
+fn rights(rt: &impl Print, image: &mut [u8]) -> io::Result<()> {
+    let vs = hypervisor(rt, true, false)?;
+    hlv(rt, vs, image, 8, true, 0x3008)?;
+    hsv(rt, vs, image, 8, 0x3008, 0x33)?;
+    let sum = hypervisor(rt, true, true)?;
+    hsv(rt, sum, image, 8, 0x3008, 0x55)?;
+    hlv(rt, sum, image, 8, true, 0x3008)?;
+    let vu = hypervisor(rt, false, true)?;
+    hlv(rt, vu, image, 8, true, 0x3008)?;
+    hlv(rt, vu, image, 8, true, 0x1010)
 }
 
 // The entries, by HSV to machine addresses.
 fn build(image: &mut [u8]) {
     let h = Hart::reset(0, 1, 0x1000);
-    let entries = ENTRIES;
-    let mut i: usize = 0;
-    while i < 17 {
-        let row = entries[i];
+    for row in ENTRIES {
         h.hsv(
             BASE,
-            &mut *image,
+            image,
             8,
             BASE | row >> AT,
             row % 0x1_0000_0000,
             word(HSV, 8),
         );
-        i = i + 1;
     }
 }
 
-fn main() {
+fn main(rt: HostRuntime) -> io::Result<()> {
     let mut image = [0u8; 0xC000];
     build(&mut image);
-    let mut h = hypervisor(true, false);
-    widths(h, &mut image);
-    parts(h, &mut image);
-    code(h, &mut image);
-    faults(h, &mut image);
-    table(h, &mut image);
-    rights(&mut image);
+    let mut h = hypervisor(&rt, true, false)?;
+    widths(&rt, h, &mut image)?;
+    parts(&rt, h, &mut image)?;
+    code(&rt, h, &mut image)?;
+    faults(&rt, h, &mut image)?;
+    table(&rt, h, &mut image)?;
+    rights(&rt, &mut image)?;
     // In VS: 22, with the word.
     h.v = 1;
-    hlv(h, &image, 4, true, 0x1010);
+    hlv(&rt, h, &image, 4, true, 0x1010)
 }

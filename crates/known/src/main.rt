@@ -7,7 +7,7 @@ use exceptions::Exception;
 use hart::accesses::Accessed;
 use hart::event::{Outcome, Step, plain};
 use hart::state::Hart;
-use libc::STDOUT_FILENO;
+use std::io;
 
 // The events, by the place of their names. A set or a clear writes.
 const READ: u64 = 0;
@@ -106,53 +106,53 @@ const TOUR: [u64; 44] = [
     READ | 0x342 << NUMBER,
 ];
 
-fn text(s: &[u8]) {
-    io::write_all(STDOUT_FILENO, s);
+fn text(rt: &impl Print, s: &[u8]) -> io::Result<()> {
+    rt.write_all(s)
 }
 
-fn number(n: u64) {
-    text(b" ");
-    io::print_hex(STDOUT_FILENO, n, 1);
+fn number(rt: &impl Print, n: u64) -> io::Result<()> {
+    print!(rt; " {n:x}")
 }
 
-fn show_event(event: u64, n: u64, x: u64) {
+fn show_event(rt: &impl Print, event: u64, n: u64, x: u64) -> io::Result<()> {
     let names = NAMES;
     if event <= INTERRUPT {
         let at = 11 * event as usize;
-        text(&names[at..at + 11]);
+        text(rt, &names[at..at + 11])?;
     }
     if n != 0 {
-        number(n);
+        number(rt, n)?;
     }
     if x != 0 {
-        number(x);
+        number(rt, x)?;
     }
+    Ok(())
 }
 
-fn show_outcome(o: Outcome) {
+fn show_outcome(rt: &impl Print, o: Outcome) -> io::Result<()> {
     match o {
-        Outcome::Done => text(b" done"),
+        Outcome::Done => text(rt, b" done"),
         Outcome::Trapped(cause) => {
-            text(b" trapped");
-            number(cause);
+            text(rt, b" trapped")?;
+            number(rt, cause)
         }
         Outcome::Refused(n) => {
-            text(b" refused");
-            number(n);
+            text(rt, b" refused")?;
+            number(rt, n)
         }
         Outcome::Interrupted(n) => {
-            text(b" interrupted");
-            number(n);
+            text(rt, b" interrupted")?;
+            number(rt, n)
         }
     }
 }
 
-fn show_hart(h: Hart) {
-    text(b" hart");
-    number(h.v);
-    number(h.privilege);
-    number(h.pc);
-    text(b"\n");
+fn show_hart(rt: &impl Print, h: Hart) -> io::Result<()> {
+    text(rt, b" hart")?;
+    number(rt, h.v)?;
+    number(rt, h.privilege)?;
+    number(rt, h.pc)?;
+    text(rt, b"\n")
 }
 
 // A trap request: the load guest-page fault of a guest entry, or a cause alone.
@@ -226,33 +226,31 @@ fn act(h: Hart, event: u64, n: u64, x: u64) -> Accessed {
 }
 
 // Does a row's event, writes its line, and hands on the hart that it left.
-fn step(h: Hart, row: u64) -> Hart {
+fn step(rt: &impl Print, h: Hart, row: u64) -> io::Result<Hart> {
     let event = row % 16;
     let n = (row >> NUMBER) % 0x1_0000;
     let x = row >> VALUE;
-    show_event(event, n, x);
+    show_event(rt, event, n, x)?;
     let a = act(h, event, n, x);
     let outcome = a.outcome;
-    show_outcome(outcome);
-    text(b" value");
-    number(a.value);
+    show_outcome(rt, outcome)?;
+    text(rt, b" value")?;
+    number(rt, a.value)?;
     let next = a.hart;
-    show_hart(next);
-    next
+    show_hart(rt, next)?;
+    Ok(next)
 }
 
-fn main() {
+fn main(rt: HostRuntime) -> io::Result<()> {
     let start = Hart::reset(0, 3, 0x1000);
     // Register FFF gives cause 2.
-    step(start, READ | 0xFFF << NUMBER);
-    let tour = TOUR;
+    step(&rt, start, READ | 0xFFF << NUMBER)?;
     let mut h = start;
-    let mut i: usize = 0;
-    while i < 44 {
-        h = step(h, tour[i]);
-        i = i + 1;
+    for row in TOUR {
+        h = step(&rt, h, row)?;
     }
     // A pc that fails check 2.
     h.pc = 2;
-    step(h, MRET);
+    step(&rt, h, MRET)?;
+    Ok(())
 }

@@ -5,10 +5,10 @@
 
 use exceptions::Exception;
 use hart::state::Hart;
-use libc::STDOUT_FILENO;
 use registers::places;
 use rules::Kind;
 use stages::Read;
+use std::io;
 use translate::{Answer, Translated, translate};
 
 // A row of the table is an entry, with its offset in the image from bit 32 up, and from bit 60 up what is done once it is there.
@@ -54,138 +54,146 @@ const ENTRIES: [u64; 20] = [
     SV57 << DO | 0x0018 << AT | 0x04CF,
 ];
 
-fn text(s: &[u8]) {
-    io::write_all(STDOUT_FILENO, s);
+fn text(rt: &impl Print, s: &[u8]) -> io::Result<()> {
+    rt.write_all(s)
 }
 
-fn number(n: u64) {
-    text(b" ");
-    io::print_hex(STDOUT_FILENO, n, 1);
+fn number(rt: &impl Print, n: u64) -> io::Result<()> {
+    print!(rt; " {n:x}")
 }
 
-fn write_fault(f: Exception) {
-    text(b"fault");
-    number(f.cause);
-    number(f.value);
-    number(f.value2);
-    number(f.word);
-    number(f.flag as u64);
+fn write_fault(rt: &impl Print, f: Exception) -> io::Result<()> {
+    text(rt, b"fault")?;
+    number(rt, f.cause)?;
+    number(rt, f.value)?;
+    number(rt, f.value2)?;
+    number(rt, f.word)?;
+    number(rt, f.flag as u64)
 }
 
-fn write_answer(answer: Answer) {
+fn write_answer(rt: &impl Print, answer: Answer) -> io::Result<()> {
     match answer {
         Answer::Address(m) => {
-            text(b"address");
-            number(m.0);
+            text(rt, b"address")?;
+            number(rt, m.0)
         }
         Answer::Refused(n) => {
-            text(b"refused");
-            number(n);
+            text(rt, b"refused")?;
+            number(rt, n)
         }
-        Answer::Fault(f) => write_fault(f),
+        Answer::Fault(f) => write_fault(rt, f),
     }
 }
 
-fn write_read(r: Read) {
+fn write_read(rt: &impl Print, r: Read) -> io::Result<()> {
     let m = r.address;
-    text(b"\nread");
-    number(r.stage);
-    number(r.level);
-    number(m.0);
-    number(r.value);
+    text(rt, b"\nread")?;
+    number(rt, r.stage)?;
+    number(rt, r.level)?;
+    number(rt, m.0)?;
+    number(rt, r.value)
 }
 
 // Writes the answer on a line, then each read on one of its own; all numbers in hex.
-fn write(t: Translated) {
+fn write(rt: &impl Print, t: Translated) -> io::Result<()> {
     let answer = t.answer;
-    write_answer(answer);
+    write_answer(rt, answer)?;
     let reads = t.reads;
-    let count = t.count;
-    let mut i: usize = 0;
-    while i < stages::PLACES {
-        if i < count {
-            write_read(reads[i]);
-        }
-        i = i + 1;
+    for r in reads.iter().take(t.count) {
+        write_read(rt, *r)?;
     }
-    text(b"\n");
+    text(rt, b"\n")
 }
 
-fn write_length(len: u64) {
-    io::print_hex(STDOUT_FILENO, len, 1);
+fn write_length(rt: &impl Print, len: u64) -> io::Result<()> {
+    print!(rt; "{len:x}")?;
     if image::refused(0, len) {
-        text(b" refused\n");
+        text(rt, b" refused\n")
     } else {
-        text(b" taken\n");
+        text(rt, b" taken\n")
     }
 }
 
 // A reset hart in VS with two registers set has an access of 8 bytes.
-fn replay(image: &[u8], vsatp: u64, hgatp: u64, kind: Kind, address: u64) {
+fn replay(
+    rt: &impl Print,
+    image: &[u8],
+    vsatp: u64,
+    hgatp: u64,
+    kind: Kind,
+    address: u64,
+) -> io::Result<()> {
     let mut h = Hart::reset(1, 1, 0);
     h.regs[places::VSATP] = vsatp;
     h.regs[places::HGATP] = hgatp;
-    write(translate(h, 0x8000_0000, image, kind, address, 8));
+    write(rt, translate(h, 0x8000_0000, image, kind, address, 8))
 }
 
 // A load through both stages, each with a MODE, over the image's first page alone.
-fn deep(image: &[u8], mode: u64, address: u64) {
+fn deep(rt: &impl Print, image: &[u8], mode: u64, address: u64) -> io::Result<()> {
     if 0x1000 <= image.len() {
         let root = mode % 16 << 60;
         replay(
+            rt,
             &image[0..0x1000],
             root | 1,
             root | 0x8_0000,
             Kind::Load,
             address,
-        );
+        )?;
     }
+    Ok(())
 }
 
 // What a row asks for: an access by the guest with root PPN 80004, the deepest walk of three levels over three, in an image of ten
 // pages, or one of four or five. (Indexes are 2 above level 0, where it is 3.)
-fn act(image: &[u8], what: u64) {
+fn act(rt: &impl Print, image: &[u8], what: u64) -> io::Result<()> {
     match what {
-        LOAD => replay(image, 0, 0x8000_0000_0008_0004, Kind::Load, 0x4000_1008),
-        STORE => replay(image, 0, 0x8000_0000_0008_0004, Kind::Store, 0x4000_1008),
+        LOAD => replay(rt, image, 0, 0x8000_0000_0008_0004, Kind::Load, 0x4000_1008),
+        STORE => replay(
+            rt,
+            image,
+            0,
+            0x8000_0000_0008_0004,
+            Kind::Store,
+            0x4000_1008,
+        ),
         DEEPEST => {
             if 0xA000 <= image.len() {
                 replay(
+                    rt,
                     &image[0..0xA000],
                     0x8000_0000_0000_0006,
                     0x8000_0000_0008_0000,
                     Kind::Load,
                     0x1008,
-                );
+                )?;
             }
+            Ok(())
         }
-        SV48 => deep(image, 9, 0x100_8040_3008),
-        SV57 => deep(image, 10, 0x2_0100_8040_3008),
-        _ => {}
+        SV48 => deep(rt, image, 9, 0x100_8040_3008),
+        SV57 => deep(rt, image, 10, 0x2_0100_8040_3008),
+        _ => Ok(()),
     }
 }
 
 // Puts a row's entry into the image, eight bytes, little-endian, and does what the row asks for.
-fn enter(image: &mut [u8; 0x1_1000], row: u64) {
+fn enter(rt: &impl Print, image: &mut [u8; 0x1_1000], row: u64) -> io::Result<()> {
     let at = (row >> AT) as usize % 0x1_0000;
     let mut rest = row % 0x1_0000_0000;
-    let mut i: usize = 0;
-    while i < 8 {
+    for i in 0..8 {
         image[at + i] = (rest % 256) as u8;
         rest = rest / 256;
-        i = i + 1;
     }
-    act(image, row >> DO);
+    act(rt, image, row >> DO)
 }
 
-fn main() {
-    write_length(0x400_0000);
-    write_length(0x400_1000);
-    let entries = ENTRIES;
+fn main(rt: HostRuntime) -> io::Result<()> {
+    write_length(&rt, 0x400_0000)?;
+    write_length(&rt, 0x400_1000)?;
     let mut image = [0u8; 0x1_1000];
-    let mut i: usize = 0;
-    while i < 20 {
-        enter(&mut image, entries[i]);
-        i = i + 1;
+    for row in ENTRIES {
+        enter(&rt, &mut image, row)?;
     }
+    Ok(())
 }

@@ -12,4 +12,4 @@ returns-in-Refused c = let a = c.args in rw (c.put_seven-in-Refused.ensures, c.i
 pub returns-in-Fault : goal.returns-in-Fault
 returns-in-Fault c =
     let a = c.args in
-    rw (c.put_seven-in-Fault.ensures, c.select-flag.ensures, c.in-Fault.is) (answer-written (Answer.Fault c.in-Fault.BIND) a.count a.out.now (omega arith))
+    rw (c.put_seven-in-Fault.ensures, c.select-flag.ensures, c.in-Fault.is) (answer-written (Answer.Fault c.in-Fault.f) a.count a.out.now (omega arith))

@@ -15,30 +15,27 @@ use Rattle.translate.specs.Translated.{answer}
 use Rattle.translate.proofs.Accesses.{Walking, at_once, walking}
 use Rattle.listing.specs.Listing.{list_at, translation_size, translation_words}
 use Rattle.listing.proofs.Words.{closed, answer-length}
-use Rattle.listing.proofs.translate_into.Goals.{After-walk_into-arg-1, After-walk_into-w}
+use Rattle.listing.proofs.translate_into.Goals.{After-walk_into-w}
 use Rattle.listing.proofs.translate_into.Goals as goal
 
 -- ---- a walk
-abbrev walked-for : After-walk_into-arg-1 → Access
-walked-for c = c.in-Walks.BIND
-
-starts-walk : (c : After-walk_into-arg-1) → let a = c.args in Walking a.h a.base a.bytes.now a.kind a.address a.width (walked-for c)
-starts-walk c =
-    let a = c.args in
-    walking a.h a.base a.bytes.now a.kind a.address a.width _ (sym c.starts-s.ensures ∙ c.in-Walks.is)
+starts-walk : (w : After-walk_into-w) → let a = w.args in Walking a.h a.base a.bytes.now a.kind a.address a.width w.in-Walks.a
+starts-walk w =
+    let a = w.args in
+    walking a.h a.base a.bytes.now a.kind a.address a.width _ (sym w.starts-s.ensures ∙ w.in-Walks.is)
 
 abbrev ran : After-walk_into-w → Ran (Result Machine)
-ran w = let a = w.args in run (look a.base a.bytes.now) (walk_of a.base (length a.bytes.now) (walked-for w))
+ran w = let a = w.args in run (look a.base a.bytes.now) (walk_of a.base (length a.bytes.now) w.in-Walks.a)
 
 -- what the walk left
 left : (w : After-walk_into-w) → let a = w.args in
     Left (ran w) a.out.now list_at w.walk_into-w.new.out w.walk_into-w.result.next (result_of w.walk_into-w.result.reached)
 left w =
     let a = w.args in
-    left_by (look a.base a.bytes.now) (walk_of a.base (length a.bytes.now) (walked-for w)) a.out.now list_at w.walk_into-w.ensures
+    left_by (look a.base a.bytes.now) (walk_of a.base (length a.bytes.now) w.in-Walks.a) a.out.now list_at w.walk_into-w.ensures
 
 room : (w : After-walk_into-w) → length (ran w).reads ≤ places
-room w = let a = w.args in few (walked-for w) a.base (length a.bytes.now) (look a.base a.bytes.now) (starts-walk w).tables
+room w = let a = w.args in few w.in-Walks.a a.base (length a.bytes.now) (look a.base a.bytes.now) (starts-walk w).tables
 
 size : (w : After-walk_into-w) → length w.walk_into-w.new.out ≡ translation_size
 size w = (left w).size ∙ w.requires
@@ -47,10 +44,13 @@ size w = (left w).size ∙ w.requires
 pub clear-requires : goal.clear-requires
 clear-requires c =
     let a = c.args in
-    (omega arith, omega (arith, ap length c.put_answer.ensures ∙ answer-length c.in-Answered.BIND 0 a.out.now (omega arith)))
+    (omega arith, omega (arith, ap length c.put_answer.ensures ∙ answer-length c.in-Answered.x 0 a.out.now (omega arith)))
 
 pub walk_into-w-requires : goal.walk_into-w-requires
-walk_into-w-requires c = let w = starts-walk (goal.at.walk_into-w-requires c).After-walk_into-arg-1 in (w.ends, w.tables, omega (arith, enough (walked-for (goal.at.walk_into-w-requires c).After-walk_into-arg-1) w.tables))
+walk_into-w-requires c =
+    let a = c.args in
+    let w = walking a.h a.base a.bytes.now a.kind a.address a.width _ (sym c.starts-s.ensures ∙ c.in-Walks.is) in
+    (w.ends, w.tables, omega (arith, enough c.in-Walks.a w.tables))
 
 pub overflow_sub-count : goal.overflow_sub-count
 overflow_sub-count c = omega (arith, (left (goal.at.overflow_sub-count c).After-walk_into-w).next)
@@ -60,21 +60,21 @@ put_answer-requires-in-Walks c = size (goal.at.put_answer-requires-in-Walks c).A
 
 pub clear-requires-in-Walks : goal.clear-requires-in-Walks
 clear-requires-in-Walks c =
-    let w = c in
+    let w = (goal.at.clear-requires-in-Walks c).After-walk_into-w in
     (omega (arith, (left w).next, room w), omega (arith, ap length c.put_answer-in-Walks.ensures ∙ answer-length c.answered.result ((w.walk_into-w.result.next - list_at) / 4) w.walk_into-w.new.out (omega (arith, size w)), size w))
 
 pub returns-in-Answered : goal.returns-in-Answered
 unfolding translation_words
 returns-in-Answered c =
     let a = c.args in
-    let x = c.in-Answered.BIND in
+    let x = c.in-Answered.x in
     rw (at_once a.h a.base a.bytes.now a.kind a.address a.width x (sym c.starts-s.ensures ∙ c.in-Answered.is), c.clear.ensures, c.put_answer.ensures)
     (closed x a.out.now [] c.requires zero-le)
 
 pub returns-in-Walks : goal.returns-in-Walks
 unfolding translation_words
 returns-in-Walks c =
-    let w = c in
+    let w = (goal.at.returns-in-Walks c).After-walk_into-w in
     let count : (list_at + 4 * length (ran w).reads - list_at) / 4 ≡ length (ran w).reads = omega arith in
     rw (
       (starts-walk w).translates,

@@ -16,7 +16,7 @@ use Rattle.listing.proofs.guest.put_performed.Goals as goal
 
 -- the words behind the first 37: the count and the list
 abbrev rest : Performed → List ℕ
-rest p = p.count ∷ read_words p.reads-1
+rest p = p.count ∷ read_words p.reads
 
 pub returns-then-given-ne-HART : goal.returns-then-given-ne-HART
 unfolding put

@@ -21,7 +21,7 @@ loop-i-preserved c =
     let l = c.loop-i in
     let a = c.args in
     let w = c.put.ensures in
-    (omega arith, l.invariant.1, c.put.auto.out ∙ l.invariant.2, rw w (place-written l.out a.t1 _ l.i a.from _ (omega (arith, l.invariant.1)) l.invariant.3))
+    (omega arith, l.invariant.1, c.put.auto.out ∙ l.invariant.2, rw w (place-written l.out a.reads _ l.i a.from _ (omega (arith, l.invariant.1)) l.invariant.3))
 
 pub shape_of-out : goal.shape_of-out
 shape_of-out c = c.loop-i.invariant.2
@@ -29,5 +29,5 @@ shape_of-out c = c.loop-i.invariant.2
 pub returns : goal.returns
 returns c =
     let l = c.loop-i in
-    let none : drop l.i c.args.t1 ≡ [] = drop_of_length-le c.args.t1 {i = l.i} (omega (arith, l.invariant.1)) in
+    let none : drop l.i c.args.reads ≡ [] = drop_of_length-le c.args.reads {i = l.i} (omega (arith, l.invariant.1)) in
     (rw none at l.invariant.3, l.invariant.1)

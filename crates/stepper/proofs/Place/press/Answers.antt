@@ -14,8 +14,8 @@ turn-requires c =
 
 pub returns-in-Ended : goal.returns-in-Ended
 unfolding pressed stepped
-returns-in-Ended c = rw (← c.refusal-number.ensures, c.if-number-ne0.false, c.in-Ended.is)
+returns-in-Ended c = rw (← c.refusal-number.ensures, c.if-number-ne0.false, c.in-Ended.is) (rw (← c.in-Ended.is))
 
 pub returns-in-Going : goal.returns-in-Going
 unfolding pressed stepped
-returns-in-Going c = rw (c.turn.ensures, ← c.refusal-number.ensures, c.if-number-ne0.false, c.in-Going.is)
+returns-in-Going c = rw (c.turn.ensures, ← c.refusal-number.ensures, c.if-number-ne0.false, c.in-Going.is) (rw (← c.in-Going.is))

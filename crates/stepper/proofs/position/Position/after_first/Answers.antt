@@ -32,4 +32,4 @@ unfolding after_first
 returns-in-Pointer c =
     let a = c.args in
     c.enter-in-Pointer.ensures ∙ rw c.in-Pointer.is
-    (ap (λ (x : ℕ). enters a.base a.len a.a (a.self.first - 1) true (guest x)) (first_slot a.a (a.self.first - 1) c.in-Pointer.BIND c.index.result c.index.ensures.0))
+    (ap (λ (x : ℕ). enters a.base a.len a.a (a.self.first - 1) true (guest x)) (first_slot a.a (a.self.first - 1) c.in-Pointer.table c.index.result c.index.ensures.0))

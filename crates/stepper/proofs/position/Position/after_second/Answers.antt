@@ -34,4 +34,4 @@ returns-in-Pointer c =
     let high = (pointer_bounds (need_for a.a a.self.entry) a.self.second a.self.guest.0 a.e _ (sym c.requires.2 ∙ c.in-Pointer.is)).0 in
     c.before-in-Pointer.ensures ∙ rw c.in-Pointer.is
     (ap (λ (x : ℕ). before a.base a.len a.a (position 2 a.self.first (a.self.second - 1) a.self.entry a.self.guest (machine x)))
-    (second-slot a.a a.self.entry a.self.guest (a.self.second - 1) c.in-Pointer.BIND c.index.result (omega (arith, high, c.requires.1)) c.index.ensures.0))
+    (second-slot a.a a.self.entry a.self.guest (a.self.second - 1) c.in-Pointer.table c.index.result (omega (arith, high, c.requires.1)) c.index.ensures.0))

@@ -1,9 +1,0 @@
-use Rattle.exports.proofs.events.balcumentri_trap.Statement.{statement}
-use Rattle.exports.proofs.events.balcumentri_trap.Tie as tie
-
-pub balcumentri-trap-spec : {M : Type 1} → statement M
-balcumentri-trap-spec =
-    tie.close
-    (tie.spec
-    (λ c κs. tt) (λ c κs. tt) (λ c κs. tt) (λ c. c.before.before.put_step.auto.1.1.0)
-    (λ c. rw (c.before.before.put_step.ensures, c.before.before.before.before.trap.ensures, c.before.before.before.before.before.hart-of.ensures)))
