@@ -1,21 +1,19 @@
 -- Which presses are taken, and what is known then. Assumes nothing.
-use mathlib.Core.Path.{◌≡◌, refl, sym, ◌∙◌}
+use mathlib.Core.Path.{◌≡◌, refl}
 use mathlib.Core.Bool.{Bool, true, false, ◌||◌, not}
 use mathlib.Core.List.{[], ◌∷◌}
 use Prim.Native.Nat.{ℕ, zero, suc, ◌≤◌, ◌<◌}
 use native.Mathlib.Omega.{arith}
 use lib.Dec.{eqb, ltb}
 use borrow.Author.Tests.{eqb-true, eqb-false, ltb-false, not-false}
-use Rattle.bits.proofs.Bools.{clash, or_left, or_right}
-use Rattle.bits.specs.Field.{pick}
+use Rattle.bits.proofs.Bools.{or_left, or_right}
 use Rattle.image.specs.Image.{unfit}
 use Rattle.stages.specs.Listed.{places}
 use Rattle.second_stage.specs.Place.{Tables}
 use Rattle.effective.specs.Effective.{effective}
 use Rattle.effective.proofs.Roots.{first_five, second_five}
 use Rattle.translate.specs.Translated.{first_refusal}
-use Rattle.stepper.specs.declared.State.{State}
-use Rattle.stepper.specs.declared.State.TheVariants.{Going, Ended}
+use Rattle.stepper.specs.declared.State.TheVariants.{Going}
 use Rattle.stepper.specs.declared.Place.{Place}
 use Rattle.stepper.specs.declared.Pressed.{Pressed}
 use Rattle.stepper.specs.declared.Told.TheVariants as Told

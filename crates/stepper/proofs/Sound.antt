@@ -1,12 +1,11 @@
 -- Which positions a press takes, in plain words and as the code tests them. Assumes nothing.
-use mathlib.Core.Path.{◌≡◌, refl, sym, ◌∙◌}
+use mathlib.Core.Path.{◌≡◌, refl}
 use mathlib.Core.Bool.{Bool, true, false, ◌&&◌, ◌||◌, not}
 use mathlib.Core.Logic.{◌⊎◌, inl, inr, ⊎_elim}
 use Prim.Native.Nat.{ℕ, ◌<◌}
-use native.Mathlib.Omega.{arith}
 use lib.Dec.{eqb, ltb}
-use borrow.Author.Tests.{ltb-true, lt-ltb, eqb-true, eq-eqb, ne_eqb, not-false}
-use Rattle.bits.proofs.Bools.{or_cases, or_left, or_right, and_rest, or-true, clash}
+use borrow.Author.Tests.{ltb-true, lt-ltb, eqb-true, eq-eqb, not-false}
+use Rattle.bits.proofs.Bools.{or_cases, or_left, or_right, and_rest}
 use Rattle.access.specs.declared.Access.{Access}
 use Rattle.stepper.specs.declared.position.Position.{Position}
 use Rattle.stepper.specs.Position.{misplaced}

@@ -17,12 +17,9 @@ use Rattle.translate.specs.declared.Start.{Start}
 use Rattle.translate.specs.declared.Start.TheVariants.{Answered, Walks}
 use Rattle.translate.specs.Translated.{first_refusal, start_of}
 use Rattle.stepper.specs.declared.State.{State}
-use Rattle.stepper.specs.declared.State.TheVariants as State
 use Rattle.stepper.specs.declared.Place.{Place}
-use Rattle.stepper.specs.declared.Shown.{Shown}
 use Rattle.stepper.specs.declared.Shown.TheVariants.{Item, Nothing}
 use Rattle.stepper.specs.declared.Told.{Told}
-use Rattle.stepper.specs.declared.Told.TheVariants as Told
 use Rattle.stepper.specs.declared.Pressed.{Pressed}
 use Rattle.stepper.specs.declared.position.Position.{Position}
 use Rattle.stepper.specs.Position.{level_at, misplaced, ended, after, begins}

@@ -1,12 +1,9 @@
 use mathlib.Core.Path.{◌≡◌, refl, ◌∙◌}
 use mathlib.Core.List.{[]}
-use Prim.Native.Nat.{◌+◌, ◌-◌, ◌*◌, ◌≤◌}
 use native.Mathlib.Nat.{add-zero}
 use native.Mathlib.Omega.{arith}
-use lib.ListN.{length, drop, drop_of_length-le}
-use lib.Seq.{sets}
+use lib.ListN.{drop, drop_of_length-le}
 use borrow.Author.Rules.{rules}
-use Rattle.stages.specs.Listed.{places, read_words}
 use Rattle.listing.proofs.Words.{place-written}
 use Rattle.listing.proofs.guest.put_reads.Goals as goal
 

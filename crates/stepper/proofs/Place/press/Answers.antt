@@ -1,4 +1,4 @@
-use mathlib.Core.Path.{◌≡◌, sym, ◌∙◌}
+use mathlib.Core.Path.{sym, ◌∙◌}
 use Rattle.stepper.specs.Press.{stepped, pressed}
 use Rattle.stepper.proofs.Presses.{is_refused, taken}
 use Rattle.stepper.proofs.Place.press.Goals as goal

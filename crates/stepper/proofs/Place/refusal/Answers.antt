@@ -1,4 +1,4 @@
-use mathlib.Core.Path.{◌≡◌, sym, ◌∙◌}
+use mathlib.Core.Path.{sym, ◌∙◌}
 use Rattle.stepper.specs.Press.{unfit_place}
 use Rattle.stepper.proofs.Place.refusal.Goals as goal
 

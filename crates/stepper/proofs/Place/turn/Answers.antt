@@ -1,4 +1,4 @@
-use mathlib.Core.Path.{◌≡◌, sym, ◌∙◌}
+use mathlib.Core.Path.{sym, ◌∙◌}
 use Rattle.stepper.specs.Press.{turned}
 use Rattle.stepper.proofs.Presses.{tables-at}
 use Rattle.stepper.proofs.Place.turn.Goals as goal

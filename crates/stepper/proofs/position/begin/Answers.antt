@@ -1,6 +1,5 @@
 use mathlib.Core.Path.{sym, ◌∙◌}
 use native.Mathlib.Omega.{arith}
-use borrow.Author.Tests.{not-true, not-false}
 use Rattle.stepper.proofs.Moves.{from-off, from_bad, from-root}
 use Rattle.stepper.proofs.position.begin.Goals as goal
 

@@ -1,6 +1,5 @@
 use mathlib.Core.Path.{sym, ◌∙◌}
 use native.Mathlib.Omega.{arith}
-use borrow.Author.Tests.{not-true, not-false}
 use Rattle.stepper.proofs.Moves.{fault_for_lem, onto-off, onto_bad, onto-root}
 use Rattle.stepper.proofs.position.enter.Goals as goal
 
