@@ -11,7 +11,7 @@ use crate::coverage::Coverage;
 use crate::fuzz::{fuzzed, Corpus};
 use crate::generate::{
     bad_script, depths_script, flips_script, guest_script, interrupts_script, long_script,
-    numbers_script, script, stepping_script, words_script,
+    numbers_script, script, words_script,
 };
 use crate::program::{Outcome, Program, Script, Status};
 use crate::reasons::REASON;
@@ -60,8 +60,8 @@ pub enum Failure {
 }
 
 /// Runs both programs over the scripts of a seed: at least so many events, and then those that flip every bit of a hart, those
-/// with everything that interrupts, words, hypervisor loads and stores, depths of tables, numbers of registers, and starts and presses
-/// come to and those with the longest lines. Ends at the first difference.
+/// with everything that interrupts, words, hypervisor loads and stores, depths of tables and numbers of registers come to and those
+/// with the longest lines. Ends at the first difference.
 pub fn compare(
     first: &dyn Program,
     second: &dyn Program,
@@ -87,13 +87,7 @@ pub fn compare(
             place += 1;
         }
     }
-    for make in [
-        words_script,
-        guest_script,
-        depths_script,
-        numbers_script,
-        stepping_script,
-    ] {
+    for make in [words_script, guest_script, depths_script, numbers_script] {
         let made = make(options.seed, folder);
         compare_and_count(first, second, place, made, &mut coverage)?;
         place += 1;

@@ -1,15 +1,14 @@
 //! What the scripts and their answers reached.
 //!
-//! Two sources: the outputs of the programs under comparison (causes of faults, refusals, stages and levels of reads, reasons, bad
-//! lines), and the second program's library while a script is written (the rule that ended a walk, the length of its list, the traps
-//! that were delivered and where to, which are not in any answer).
+//! Two sources: the outputs of the programs under comparison (causes of faults, refusals, list lengths, stages and levels of
+//! reads, reasons, bad lines), and the second program's library while a script is written (the rule that ended a walk, the traps that
+//! were delivered and where to, which are not in any answer).
 
 pub mod bits;
 pub mod depths;
 pub mod guest;
 pub mod interrupts;
 pub mod numbers;
-pub mod stepping;
 pub mod words;
 
 use std::collections::BTreeMap;
@@ -28,13 +27,12 @@ use crate::coverage::depths::Deep;
 use crate::coverage::guest::{has_mprv, Guest};
 use crate::coverage::interrupts::Interrupts;
 use crate::coverage::numbers::Numbers;
-use crate::coverage::stepping::Stepping;
 use crate::coverage::words::Words;
 use crate::reasons::{KINDS, REASON};
 use crate::word_lines::WORD;
 
 /// The words of the events, in REPLAY.md's order.
-pub const WORDS: [&str; 23] = [
+pub const WORDS: [&str; 21] = [
     "fetch",
     "load",
     "store",
@@ -55,8 +53,6 @@ pub const WORDS: [&str; 23] = [
     "hlv",
     "hlvx",
     "hsv",
-    "start",
-    "press",
     "show",
 ];
 
@@ -125,8 +121,6 @@ pub struct Coverage {
     pub registers: BTreeMap<(u64, Mode), u64>,
     /// Translations by the mode of the hart that passed its check.
     pub translations: BTreeMap<Mode, u64>,
-    /// The lengths of their lists. (In the outputs a press may show its item right behind a list.)
-    pub lengths: BTreeMap<u64, u64>,
     /// Interrupts.
     pub interrupts: Interrupts,
     /// Bits of the registers of interrupts.
@@ -139,8 +133,6 @@ pub struct Coverage {
     pub deep: Deep,
     /// Numbers of registers.
     pub numbers: Numbers,
-    /// Starts and presses.
-    pub stepping: Stepping,
     /// Refusals by event word and number.
     pub refused_words: BTreeMap<(&'static str, u64), u64>,
     /// Single flipped bits.
@@ -151,6 +143,8 @@ pub struct Coverage {
     pub faults: BTreeMap<u64, u64>,
     /// From the outputs: `address`.
     pub addresses: u64,
+    /// From the outputs: lengths of the lists of `address` and `fault` answers.
+    pub lengths: BTreeMap<u64, u64>,
     /// From the outputs: `read STAGE LEVEL`.
     pub reads: BTreeMap<(u64, u64), u64>,
     /// From the outputs: `# why: `, by the kind of the reason.
@@ -165,19 +159,14 @@ pub struct Coverage {
     pub bytes: u64,
 }
 
-/// The word of an access.
-pub fn kind_word(kind: Kind) -> &'static str {
-    match kind {
-        Kind::Fetch => "fetch",
-        Kind::Load => "load",
-        Kind::Store => "store",
-    }
-}
-
 /// The word of a line that is an event.
 pub fn event_word(line: &Line) -> Option<&'static str> {
     let word = match line {
-        Line::Translate(access) => kind_word(access.kind),
+        Line::Translate(access) => match access.kind {
+            Kind::Fetch => "fetch",
+            Kind::Load => "load",
+            Kind::Store => "store",
+        },
         Line::Register { action, .. } => match action {
             Action::Read => "read",
             Action::Write(_) => "write",
@@ -201,14 +190,14 @@ pub fn event_word(line: &Line) -> Option<&'static str> {
             Operation::LoadExecutable => "hlvx",
             Operation::Store { .. } => "hsv",
         },
-        Line::Start(_) => "start",
-        Line::Press => "press",
         Line::Show => "show",
         Line::Image { .. }
         | Line::File { .. }
         | Line::Put { .. }
         | Line::Hart { .. }
-        | Line::Reg { .. } => return None,
+        | Line::Reg { .. }
+        | Line::Start(_)
+        | Line::Press => return None,
     };
     Some(word)
 }
@@ -274,13 +263,12 @@ impl Coverage {
         }
         let entry_fault = self.entry_fault.take();
         match answer {
-            Answer::Nothing | Answer::Hart(_) => {}
+            Answer::Nothing | Answer::Hart(_) | Answer::Started(_) | Answer::Pressed(_) => {}
             Answer::Translation(translation) => {
-                if let walk::Answer::Refused(number) = translation.answer {
+                if let second::walk::Answer::Refused(number) = translation.answer {
                     count(&mut self.refused_words, (word, number));
                 } else if let Some(mode) = before.checked_mode() {
                     count(&mut self.translations, mode);
-                    count(&mut self.lengths, translation.list.count as u64);
                 }
                 if let Some(why) = translation.why {
                     count(&mut self.rules, (word, why.key()));
@@ -299,16 +287,6 @@ impl Coverage {
                 }
             }
             Answer::Guest(reached) => self.note_ending(word, before, &reached.outcome.ending),
-            Answer::Started(place) => {
-                if let Some(walk::Answer::Refused(number)) = place.end().map(|end| end.answer) {
-                    count(&mut self.refused_words, (word, number));
-                }
-            }
-            Answer::Pressed(pressed) => {
-                if let Some(refusal) = pressed.refusal {
-                    count(&mut self.refused_words, (word, refusal.number()));
-                }
-            }
         }
         if let Some(mode) = before.checked_mode() {
             self.note_mode(line, word, before, mode, answer);
@@ -370,6 +348,7 @@ impl Coverage {
     pub fn read_output(&mut self, output: &[u8]) {
         self.scripts += 1;
         self.bytes += output.len() as u64;
+        let mut open_list: Option<u64> = None;
         for line in output.split(|byte| *byte == b'\n') {
             if let Some(reason) = line.strip_prefix(REASON) {
                 self.note_reason(&String::from_utf8_lossy(reason));
@@ -388,10 +367,23 @@ impl Coverage {
                     .and_then(second::script::parse_number)
                     .unwrap_or(u64::MAX)
             };
+            if word == b"read" {
+                count(&mut self.reads, (number(), number()));
+                open_list = open_list.map(|length| length + 1);
+                continue;
+            }
+            if let Some(length) = open_list.take() {
+                count(&mut self.lengths, length);
+            }
             match word {
-                b"read" => count(&mut self.reads, (number(), number())),
-                b"address" => self.addresses += 1,
-                b"fault" => count(&mut self.faults, number()),
+                b"address" => {
+                    self.addresses += 1;
+                    open_list = Some(0);
+                }
+                b"fault" => {
+                    count(&mut self.faults, number());
+                    open_list = Some(0);
+                }
                 b"refused" => count(&mut self.refusals, number()),
                 b"error" => self.bad_lines += 1,
                 _ => {}
@@ -417,19 +409,18 @@ impl Coverage {
         add(&mut self.instructions, &other.instructions);
         add(&mut self.registers, &other.registers);
         add(&mut self.translations, &other.translations);
-        add(&mut self.lengths, &other.lengths);
         self.interrupts.add(&other.interrupts);
         self.bits.add(&other.bits);
         self.instruction_words.add(&other.instruction_words);
         self.guest.add(&other.guest);
         self.deep.add(&other.deep);
         self.numbers.add(&other.numbers);
-        self.stepping.add(&other.stepping);
         add(&mut self.refused_words, &other.refused_words);
         add(&mut self.flips, &other.flips);
         add(&mut self.refusals, &other.refusals);
         add(&mut self.faults, &other.faults);
         self.addresses += other.addresses;
+        add(&mut self.lengths, &other.lengths);
         add(&mut self.reads, &other.reads);
         add(&mut self.reasons, &other.reasons);
         self.no_reason = self.no_reason.take().or(other.no_reason.clone());
@@ -474,7 +465,7 @@ impl Coverage {
                 missing.push(format!("a fault of cause {cause}"));
             }
         }
-        for number in 1..=6 {
+        for number in 1..=5 {
             if !self.refusals.contains_key(&number) {
                 missing.push(format!("refusal {number}"));
             }
@@ -535,7 +526,6 @@ impl Coverage {
         missing.extend(self.guest.missing());
         missing.extend(self.deep.missing());
         missing.extend(self.numbers.missing());
-        missing.extend(self.stepping.missing());
         if self.bad_lines == 0 {
             missing.push("a bad line".to_string());
         }
@@ -606,7 +596,6 @@ impl Coverage {
         self.guest.table(text);
         self.deep.table(text);
         self.numbers.table(text);
-        self.stepping.table(text);
     }
 
     fn table_of_answers(&self, text: &mut String) {

@@ -6,7 +6,7 @@ use std::path::Path;
 
 use second::lines::LONGEST_LINE;
 
-use crate::generate::{bad_script, script, steps_script};
+use crate::generate::{bad_script, script};
 use crate::program::{Script, FILES};
 use crate::rng::Rng;
 
@@ -87,7 +87,7 @@ const NO_NUMBERS: [&[u8]; 14] = [
 ];
 
 /// Words of the language and near misses.
-const WORDS: [&[u8]; 40] = [
+const WORDS: [&[u8]; 34] = [
     b"image",
     b"file",
     b"put",
@@ -114,12 +114,6 @@ const WORDS: [&[u8]; 40] = [
     b"hlvx",
     b"hsv",
     b"hsvx",
-    b"start",
-    b"start fetch",
-    b"start load",
-    b"start store",
-    b"press",
-    b"presses",
     b"show",
     b"Show",
     b"loads",
@@ -202,10 +196,9 @@ fn random_words(rng: &mut Rng) -> Vec<u8> {
 }
 
 fn good_script(rng: &mut Rng, corpus: &Corpus, folder: &Path) -> Vec<u8> {
-    match rng.below(5) {
+    match rng.below(4) {
         0 => bad_script(rng.bits(), rng.below(1000), folder).0.bytes(),
         1 => script(rng.bits(), 0, 1, folder).0.bytes(),
-        2 => steps_script(rng.bits(), folder).0.bytes(),
         _ if corpus.0.is_empty() => script(rng.bits(), 0, 1, folder).0.bytes(),
         _ => corpus.0[rng.below(corpus.0.len() as u64) as usize].clone(),
     }
@@ -340,23 +333,13 @@ fn insert_line(rng: &mut Rng, bytes: &mut Vec<u8>) {
         .filter(|at| *at == 0 || bytes[at - 1] == b'\n')
         .collect();
     let at = rng.pick(&starts);
-    let word: &[u8] = rng.pick(&[
-        &b"image"[..],
-        b"put",
-        b"file",
-        b"hart",
-        b"start load",
-        b"press",
-    ]);
+    let word: &[u8] = rng.pick(&[&b"image"[..], b"put", b"file", b"hart"]);
     let last: &[u8] = match word {
         b"file" => path(rng),
         b"hart" => b"1 0",
         _ => rng.pick(&LIMITS),
     };
-    let mut line = match word {
-        b"press" => word.to_vec(),
-        _ => [word, rng.pick(&LIMITS), last].join(&b' '),
-    };
+    let mut line = [word, rng.pick(&LIMITS), last].join(&b' ');
     line.push(b'\n');
     bytes.splice(at..at, line);
 }

@@ -8,7 +8,7 @@ use crate::coverage::Coverage;
 use crate::program::Script;
 use crate::scenes::{
     bad, depths, edges, flips, guest, interrupts, journeys, long, numbers, refusals, registers,
-    stepping, traps, walks, words,
+    traps, walks, words,
 };
 use crate::scribe::Scribe;
 
@@ -81,21 +81,6 @@ pub fn numbers_script(seed: u64, folder: &Path) -> (Script, Coverage) {
     let mut scribe = Scribe::new(script_seed(seed, place), folder.to_path_buf());
     numbers::all_in_turn(&mut scribe);
     explained(scribe)
-}
-
-/// A script with everything that starts and presses can come to. It always asks for reasons too.
-pub fn stepping_script(seed: u64, folder: &Path) -> (Script, Coverage) {
-    let place = !(2 * Mode::ALL.len() as u64 + 4);
-    let mut scribe = Scribe::new(script_seed(seed, place), folder.to_path_buf());
-    stepping::all_in_turn(&mut scribe);
-    explained(scribe)
-}
-
-/// A script with some walks through any tables, one entry at a time.
-pub fn steps_script(seed: u64, folder: &Path) -> (Script, Coverage) {
-    let mut scribe = Scribe::new(seed, folder.to_path_buf());
-    stepping::steps(&mut scribe);
-    finished(scribe)
 }
 
 /// A script with one of the longest lines, or with one that is a byte longer and bad, by its place in the run.
@@ -192,7 +177,7 @@ impl Sweep {
 
 /// One scene. Half of all events are translations through tables.
 fn scene(scribe: &mut Scribe) {
-    match scribe.rng.below(120) {
+    match scribe.rng.below(115) {
         0..=29 => walks::walks(scribe),
         30..=44 => registers::accesses(scribe),
         45..=49 => registers::write_rules(scribe),
@@ -208,7 +193,6 @@ fn scene(scribe: &mut Scribe) {
         98..=105 => interrupts::events(scribe),
         106..=111 => interrupts::views(scribe),
         112..=113 => edges::address_spaces(scribe),
-        114..=118 => stepping::steps(scribe),
         _ if scribe.rng.chance(20) => edges::large_images(scribe),
         _ => edges::files(scribe),
     }

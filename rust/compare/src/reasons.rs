@@ -10,7 +10,6 @@ use second::image::BadImage;
 use second::interrupts::{self, Interrupt, Rule};
 use second::reasons::Reason;
 use second::registers::{after_write, wrong, Level, Row, Wrong, ROWS};
-use second::stepping::BadPlace;
 use second::trap::{BadRequest, Control, Forbidden, Refusal, Target};
 use second::walk::{BadAccess, Why};
 
@@ -107,7 +106,6 @@ fn all() -> Vec<Reason> {
     let refusals = refusals.chain(accesses().map(Refusal::Access));
     let refusals = refusals.chain(requests().into_iter().map(Refusal::Request));
     let refusals = refusals.chain([Refusal::Number(ANY)]);
-    let refusals = refusals.chain(places().map(Refusal::Place));
     let rules = reachable_rules()
         .into_iter()
         .chain(hlvx_rules())
@@ -195,15 +193,6 @@ fn requests() -> Vec<BadRequest> {
         });
     }
     requests
-}
-
-/// Refusal 6, as far as scripts come to it.
-fn places() -> impl Iterator<Item = BadPlace> {
-    let any = u128::from(ANY);
-    let (image, place) = (ANY, ANY);
-    let base = BadPlace::Base { image, place };
-    let (image, place) = (any, any);
-    [base, BadPlace::Length { image, place }].into_iter()
 }
 
 /// Traps with cause 2 or 22: each register and each instruction in each mode that does not reach it, and each bit.
@@ -344,15 +333,6 @@ mod tests {
             ),
             ("interrupt a goes to M, bit 10 of mideleg is 0; HS is below M", None),
             ("interrupt 9 goes to HS, bit 9 of hideleg is 0; HS is below HS", None),
-            (
-                "the image's base 80010000 is not 80000000, the place's",
-                Some("the image's base * is not *, the place's"),
-            ),
-            (
-                "the image's length 0 is not 1000, the place's",
-                Some("the image's length * is not *, the place's"),
-            ),
-            ("the image's base 1000 is not 0", None),
             ("hstatus.HU is 0", Some("hstatus.HU is 0")),
             ("HLVX has width 2 or 4, not 1", Some("HLVX has width 2 or 4, not *")),
             ("HLVX is out of reach in VU", Some("HLVX is out of reach in VU")),
@@ -369,7 +349,7 @@ mod tests {
 
     #[test]
     fn each_kind_is_there_once_and_finds_itself() {
-        assert_eq!(KINDS.count(), 1140);
+        assert_eq!(KINDS.count(), 1138);
         for kind in 0..KINDS.count() {
             let text = KINDS.text(kind).replace(STAR, "0");
             assert_eq!(KINDS.find(&text), Some(kind), "{text}");

@@ -11,7 +11,6 @@ pub mod long;
 pub mod numbers;
 pub mod refusals;
 pub mod registers;
-pub mod stepping;
 pub mod traps;
 pub mod walks;
 pub mod words;

@@ -3,9 +3,7 @@
 
 use std::path::PathBuf;
 
-use second::address::Machine;
 use second::hart::{Hart, Mode};
-use second::image::Image;
 use second::registers::{after_write, Row, MIP, MPRV, ROWS};
 use second::script::{parse, Answer, Session};
 
@@ -62,8 +60,6 @@ impl Scribe {
             .perform(&parsed)
             .unwrap_or_else(|bad| panic!("the generator wrote a bad line, {text:?}: {}", bad.0));
         self.coverage.note(&parsed, &before, &answer);
-        let image = &self.session.image;
-        self.coverage.stepping.note(&parsed, &before, &answer, image);
         self.lines.push(bytes);
         answer
     }
@@ -80,16 +76,15 @@ impl Scribe {
             return format!(" \t{text} \r").into_bytes();
         }
         let mut line = String::new();
-        let words = if text.starts_with("start ") { 2 } else { 1 };
         for (place, word) in text.split(' ').enumerate() {
             if place > 0 {
                 line.push_str(self.rng.pick(&[" ", "  ", "\t", " \t ", "\r", " \r"]));
             }
             let mut word = word.to_string();
-            if place >= words && self.rng.chance(50) {
+            if place > 0 && self.rng.chance(50) {
                 word = word.to_uppercase();
             }
-            if place >= words && self.rng.chance(50) {
+            if place > 0 && self.rng.chance(50) {
                 word = format!("{word:0>16}");
             }
             line.push_str(&word);
@@ -151,17 +146,6 @@ impl Scribe {
                 if plain.stored(row.number) != Some(content) {
                     self.reg(row.number, content);
                 }
-            }
-        }
-    }
-
-    /// Lines that make the image exactly this one, whose length is a multiple of 8.
-    pub fn whole_image(&mut self, image: &Image) {
-        let (base, length) = (image.base, image.bytes.len());
-        self.line(&format!("image {base:x} {length:x}"));
-        for place in (base..).step_by(8).take(length / 8) {
-            if let Some(value @ 1..) = image.read(Machine(place)) {
-                self.put(place, value);
             }
         }
     }

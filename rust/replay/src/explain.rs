@@ -1,15 +1,14 @@
 //! Answers in words: lines that begin with `# `.
 
-use crate::entries::{self, Entry};
 use crate::events;
 use crate::guest;
 use crate::happened::{refusal, Came, Explanation, Happened};
 use crate::interrupts;
 use crate::names;
-use crate::paint::{Paint, Tone};
+use crate::paint::Paint;
 use crate::script::{Event, GuestAccess};
-use crate::tree::Drawing;
-use crate::walk::{self, Course, Right, Stage, View, Walk};
+use crate::tree;
+use crate::walk::{self, Part, Right, Stage, View, Walk};
 use crate::word;
 use balcumentri::{Access, Answer, Fault, GuestAccessed, Kind, Outcome, Translation};
 use std::io::{self, Write};
@@ -52,7 +51,6 @@ impl Explainer {
                 self.guest_access(happened, access, accessed)
             }
             (Event::Interrupt, Came::Stepped(outcome)) => interrupts::event(happened, *outcome),
-            (Event::Start(_) | Event::Press, _) => self.stepping(happened),
             (_, Came::Stepped(outcome)) => events::event(happened, "trap request", *outcome),
             _ => Explanation {
                 lines: events::hart(happened.after),
@@ -93,14 +91,11 @@ impl Explainer {
                 why: None,
             };
         };
-        let course = match answer {
-            Answer::Fault(_) => Course::Faulted,
-            _ => Course::Reached,
-        };
-        let walk = walk::follow(&view, translation.reads(), course);
+        let faulted = matches!(answer, Answer::Fault(_));
+        let walk = walk::follow(&view, translation.reads(), faulted);
         Explanation {
             lines: self.walk(&view, &walk, ending),
-            why: walk.why(),
+            why: walk.end.err().map(|stop| stop.to_string()),
         }
     }
 
@@ -118,24 +113,20 @@ impl Explainer {
             return explanation;
         }
         let view = View::of_guest(happened.before, access);
-        let course = match outcome {
-            Outcome::Done => Course::Reached,
-            _ => Course::Faulted,
-        };
-        let walk = walk::follow(&view, accessed.reads(), course);
+        let walk = walk::follow(&view, accessed.reads(), outcome != Outcome::Done);
         let ending = match &walk.end {
-            Some(Ok(address)) => {
+            Ok(address) => {
                 let words = guest::transferred(access, *address, value, happened.overwritten);
                 self.paint.good(&words)
             }
-            _ => {
+            Err(_) => {
                 let fault = guest::fault(happened.after);
                 self.paint.bad(&fault_words(fault))
             }
         };
         let lines = self.walk(&view, &walk, ending);
         explanation.lines.splice(1..1, lines);
-        explanation.why = walk.why();
+        explanation.why = walk.end.err().map(|stop| stop.to_string());
         explanation
     }
 
@@ -144,36 +135,32 @@ impl Explainer {
         let heading = heading(view);
         match self.style {
             Style::Words => walk_lines(heading, walk, ending),
-            Style::Tree => Drawing {
-                paint: self.paint,
-                shown: None,
-                going: false,
-            }
-            .lines(heading, walk, ending),
+            Style::Tree => tree::drawn(self.paint, heading, walk, ending),
         }
     }
 
-    /// How a translation ended, in its colour.
-    pub fn ending(&self, answer: Answer) -> String {
-        let (tone, words) = ending(answer);
-        self.paint.toned(tone, &words)
+    /// How a translation ended.
+    fn ending(&self, answer: Answer) -> String {
+        match answer {
+            Answer::Address(address) => self
+                .paint
+                .good(&format!("it reaches machine address {address:x}")),
+            Answer::Refused(number) => self.paint.bad(&refusal(number)),
+            Answer::Fault(fault) => self.paint.bad(&fault_words(fault)),
+        }
     }
 }
 
-/// How a translation ended.
-pub fn ending(answer: Answer) -> (Tone, String) {
-    match answer {
-        Answer::Address(address) => (
-            Tone::Good,
-            format!("it reaches machine address {address:x}"),
-        ),
-        Answer::Refused(number) => (Tone::Bad, refusal(number)),
-        Answer::Fault(fault) => (Tone::Bad, fault_words(fault)),
+fn kind(access: Access) -> &'static str {
+    match access.kind {
+        Kind::Fetch => "fetch",
+        Kind::Load => "load",
+        Kind::Store => "store",
     }
 }
 
 /// The access, its effective mode and the stages that are on.
-pub fn heading(view: &View) -> String {
+fn heading(view: &View) -> String {
     let access = view.access;
     let stages = match (view.first.is_some(), view.second.is_some()) {
         (false, false) => "no stage is on",
@@ -189,7 +176,7 @@ pub fn heading(view: &View) -> String {
     let bytes = if access.width == 1 { "byte" } else { "bytes" };
     format!(
         "{} of {:x} {bytes} at {:x} as {}{by}{needs}; {stages}",
-        names::kind(access.kind),
+        kind(access),
         access.width,
         access.address,
         view.mode
@@ -197,8 +184,8 @@ pub fn heading(view: &View) -> String {
 }
 
 /// An access whose width may be none.
-pub fn refused_access(access: Access) -> String {
-    let (kind, width, address) = (names::kind(access.kind), access.width, access.address);
+fn refused_access(access: Access) -> String {
+    let (kind, width, address) = (kind(access), access.width, access.address);
     format!("{kind} of width {width:x} at {address:x}")
 }
 
@@ -225,18 +212,39 @@ fn fault_words(fault: Fault) -> String {
 fn walk_lines(heading: String, walk: &Walk, ending: String) -> Vec<String> {
     let mut lines = vec![heading];
     for stage in [&walk.first, &walk.second].into_iter().flatten() {
-        stage_lines(stage, &mut lines);
+        stage_lines(stage, "the access", &mut lines);
     }
     lines.push(ending);
     lines
 }
 
-fn stage_lines(stage: &Stage, lines: &mut Vec<String>) {
-    lines.extend(entries::second_stage(stage));
+fn stage_lines(stage: &Stage, purpose: &str, lines: &mut Vec<String>) {
+    let name = if stage.part.is_first() {
+        "first"
+    } else {
+        let address = stage.address;
+        lines.push(format!(
+            "second stage for guest physical {address:x}, {purpose}:"
+        ));
+        "second"
+    };
     for step in &stage.steps {
         if let Some(through) = &step.through {
-            stage_lines(through, lines);
+            let purpose = format!("the guest entry at level {:x}", step.level);
+            stage_lines(through, &purpose, lines);
         }
-        lines.extend(Entry { stage, step }.described());
+        if let Some(read) = step.read {
+            let guest = match stage.part {
+                Part::Vsatp => format!(" (guest physical {:x})", step.address()),
+                _ => String::new(),
+            };
+            lines.push(format!(
+                "{name} stage, level {:x}, entry at {:x}{guest}: {}, {}",
+                step.level,
+                read.address,
+                walk::flags(read.value),
+                walk::leads(stage.part, step.level, read.value)
+            ));
+        }
     }
 }

@@ -28,7 +28,7 @@ const fn form(word: &'static str, takes: &'static [&'static str]) -> Form {
 /// The most numbers that a line takes.
 pub const MOST: usize = 5;
 
-pub const FORMS: [Form; 28] = [
+pub const FORMS: [Form; 26] = [
     form("image", &["BASE", "LENGTH"]),
     form("file", &["BASE", "PATH"]),
     form("put", &["ADDRESS", "VALUE"]),
@@ -54,8 +54,6 @@ pub const FORMS: [Form; 28] = [
     form("hlv", &["WIDTH", "SIGNED", "ADDRESS", "WORD"]),
     form("hlvx", &["WIDTH", "ADDRESS", "WORD"]),
     form("hsv", &["WIDTH", "ADDRESS", "VALUE", "WORD"]),
-    form("start", &["KIND", "ADDRESS", "WIDTH"]),
-    form("press", &[]),
     form("show", &[]),
 ];
 

@@ -3,9 +3,7 @@
 use crate::names;
 use crate::reason;
 use crate::script::Event;
-use crate::stand_in::Press;
-use crate::stepper::{Extent, Stepper};
-use balcumentri::{Accessed, Answer, GuestAccessed, Hart, Outcome, Translation};
+use balcumentri::{Accessed, GuestAccessed, Hart, Image, Outcome, Translation};
 
 /// What an event came to.
 pub enum Came {
@@ -16,9 +14,6 @@ pub enum Came {
     /// A hypervisor store.
     Stored(Box<GuestAccessed>),
     Stepped(Outcome),
-    /// A start; how it ended, where it did at once.
-    Started(Option<Answer>),
-    Pressed(Press),
     Shown,
 }
 
@@ -31,9 +26,7 @@ pub struct Happened<'a> {
     pub came: &'a Came,
     pub before: &'a Hart,
     pub after: &'a Hart,
-    pub image: Extent,
-    /// The translation that is taken one read at a time, if there is one.
-    pub stepper: Option<&'a Stepper>,
+    pub image: Image<'a>,
     /// What was there before where a hypervisor store wrote.
     pub overwritten: u64,
 }
@@ -54,7 +47,6 @@ impl Happened<'_> {
 }
 
 /// What happened, line by line, and why: of a refusal, a fault, an instruction's trap and the event that takes interrupts.
-#[derive(Default)]
 pub struct Explanation {
     pub lines: Vec<String>,
     pub why: Option<String>,

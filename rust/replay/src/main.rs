@@ -1,8 +1,6 @@
 //! `replay`: runs a replay script through the proved hart model.
 
-mod answers;
 mod descriptor;
-mod entries;
 mod events;
 mod explain;
 mod fields;
@@ -19,9 +17,6 @@ mod registers;
 mod run;
 mod scene;
 mod script;
-mod stand_in;
-mod stepper;
-mod stepping;
 mod suggest;
 mod tree;
 mod views;

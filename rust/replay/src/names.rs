@@ -1,6 +1,6 @@
-//! The modes, and the names of kinds of access, causes, interrupts and refusals.
+//! The modes, and the names of causes, interrupts and refusals.
 
-use balcumentri::{Hart, Kind};
+use balcumentri::Hart;
 use std::fmt;
 
 /// The five modes.
@@ -59,18 +59,6 @@ pub fn place(hart: &Hart) -> String {
     match Mode::of_hart(hart) {
         Some(mode) => format!("{mode} at {:x}", hart.pc()),
         None => format!("no mode at {:x}", hart.pc()),
-    }
-}
-
-/// The kinds of access.
-pub const KINDS: [Kind; 3] = [Kind::Fetch, Kind::Load, Kind::Store];
-
-/// The word for a kind of access.
-pub fn kind(kind: Kind) -> &'static str {
-    match kind {
-        Kind::Fetch => "fetch",
-        Kind::Load => "load",
-        Kind::Store => "store",
     }
 }
 
@@ -155,7 +143,6 @@ pub fn refusal(number: u64) -> &'static str {
         3 => "no access has this width, or a fetch this address",
         4 => "no such trap can arise",
         5 => "no register number is that large",
-        6 => "the place is none of this image",
         _ => "no refusal",
     }
 }

@@ -3,22 +3,6 @@
 use std::ffi::OsStr;
 use std::io::{self, IsTerminal};
 
-/// What a text is, which settles its colour.
-#[derive(Clone, Copy, PartialEq, Eq)]
-pub enum Tone {
-    Plain,
-    /// The first stage.
-    First,
-    /// The second stage.
-    Second,
-    /// An answer as it was hoped for.
-    Good,
-    /// A fault, a refusal and why.
-    Bad,
-    /// The entry that was just read, and the one that is next.
-    Mark,
-}
-
 /// Colours text, or leaves it plain.
 #[derive(Clone, Copy)]
 pub struct Paint {
@@ -35,37 +19,32 @@ impl Paint {
         }
     }
 
+    /// The first stage.
     pub fn first(self, text: &str) -> String {
-        self.toned(Tone::First, text)
+        self.coloured("36", text)
     }
 
+    /// The second stage.
     pub fn second(self, text: &str) -> String {
-        self.toned(Tone::Second, text)
+        self.coloured("35", text)
     }
 
+    /// An answer as it was hoped for.
     pub fn good(self, text: &str) -> String {
-        self.toned(Tone::Good, text)
+        self.coloured("32", text)
     }
 
+    /// A fault, a refusal and why.
     pub fn bad(self, text: &str) -> String {
-        self.toned(Tone::Bad, text)
+        self.coloured("31", text)
     }
 
-    pub fn mark(self, text: &str) -> String {
-        self.toned(Tone::Mark, text)
-    }
-
-    pub fn toned(self, tone: Tone, text: &str) -> String {
-        let colour = match tone {
-            _ if !self.on => return text.to_owned(),
-            Tone::Plain => return text.to_owned(),
-            Tone::First => 36,
-            Tone::Second => 35,
-            Tone::Good => 32,
-            Tone::Bad => 31,
-            Tone::Mark => 33,
-        };
-        format!("\x1b[{colour}m{text}\x1b[0m")
+    fn coloured(self, colour: &str, text: &str) -> String {
+        if self.on {
+            format!("\x1b[{colour}m{text}\x1b[0m")
+        } else {
+            text.to_owned()
+        }
     }
 }
 

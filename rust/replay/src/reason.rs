@@ -5,15 +5,14 @@ use crate::names::{self, Mode};
 use crate::pending::{self, Way};
 use crate::registers::{self, get, stray, HGATP, HSTATUS, MSTATUS, SATP};
 use crate::script::{Event, GuestAccess, Instruction, Transfer};
-use crate::stepper::Extent;
-use balcumentri::{Access, Fault, Hart, Kind};
+use balcumentri::{Access, Fault, Hart, Image, Kind};
 
 /// Why an event was refused.
-pub fn refused(number: u64, hart: &Hart, image: Extent, event: &Event) -> Option<String> {
+pub fn refused(number: u64, hart: &Hart, image: Image<'_>, event: &Event) -> Option<String> {
     match (number, event) {
         (2, _) => hart_refused(hart),
         (1, _) => image_refused(image),
-        (3, Event::Translate(access) | Event::Start(access)) => access_refused(access),
+        (3, Event::Translate(access)) => access_refused(access),
         (3, Event::Guest(access, _)) => guest_access_refused(access),
         (4, Event::Trap(trap)) => trap_refused(hart, trap),
         (5, Event::Register(number, ..)) => Some(format!("register number {number:x} is over fff")),
@@ -45,9 +44,9 @@ pub fn hart_refused(hart: &Hart) -> Option<String> {
 }
 
 /// Refusal 1.
-fn image_refused(image: Extent) -> Option<String> {
-    let Extent { base, length } = image;
-    let end = u128::from(base) + u128::from(length);
+fn image_refused(image: Image<'_>) -> Option<String> {
+    let (base, length) = (image.base, image.bytes.len());
+    let end = u128::from(base) + length as u128;
     if length > 0x400_0000 {
         Some(format!(
             "the image has {length:x} bytes; it may have at most 4000000"
@@ -67,17 +66,6 @@ fn image_refused(image: Extent) -> Option<String> {
         ))
     } else {
         None
-    }
-}
-
-/// Why a press was refused: the image is bad, or not that of the place's start.
-pub fn press_refused(number: u64, image: Extent, start: Extent) -> Option<String> {
-    let other = |what, now, then| format!("the image's {what} {now:x} is not {then:x}, the place's");
-    match number {
-        1 => image_refused(image),
-        6 if image.base != start.base => Some(other("base", image.base, start.base)),
-        6 if image.length != start.length => Some(other("length", image.length, start.length)),
-        _ => None,
     }
 }
 

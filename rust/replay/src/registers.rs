@@ -266,7 +266,7 @@ pub fn offset_bits(level: u64) -> u64 {
 }
 
 /// The name of the MODE with which a register's tables have so many levels.
-pub fn mode_name(number: u64, levels: u64) -> String {
+fn mode_name(number: u64, levels: u64) -> String {
     let suffix = if number == HGATP { "x4" } else { "" };
     format!("Sv{}{suffix}", offset_bits(levels))
 }

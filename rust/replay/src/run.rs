@@ -1,13 +1,11 @@
 //! Runs a script: one line after the other, an answer for each event.
 
-use crate::answers;
 use crate::explain::Explainer;
 use crate::happened::{Came, Happened};
 use crate::input::{Lines, Stop};
 use crate::scene::Scene;
 use crate::script::{self, Action, Command, Event, GuestAccess, Instruction, Mistake, Transfer};
-use crate::stepper::Extent;
-use balcumentri::Hart;
+use balcumentri::{Answer, Hart, Outcome, Read, Translation};
 use std::ffi::OsStr;
 use std::io::{self, Write};
 use std::os::unix::ffi::OsStrExt;
@@ -20,90 +18,41 @@ pub fn run(
     explainer: Option<Explainer>,
     out: &mut impl Write,
 ) -> Result<(), Stop> {
-    let mut replay = Replay::new(script, folder);
-    while let Some(event) = replay.advance(out)? {
-        replay.answer(&event, explainer.as_ref(), out)?;
-    }
-    Ok(())
-}
-
-/// A script on its way: its lines, and the scene that they set.
-pub struct Replay<'a, R> {
-    lines: Lines<R>,
-    folder: &'a Path,
-    pub scene: Scene,
-}
-
-impl<'a, R: io::Read> Replay<'a, R> {
-    pub fn new(script: R, folder: &'a Path) -> Self {
-        Replay {
-            lines: Lines::new(script),
-            folder,
-            scene: Scene::new(),
-        }
-    }
-
-    /// Goes on to the next event, setting the scene on the way; none at the script's end. Before it waits for more of the script it
-    /// hands on the answers so far.
-    pub fn advance(&mut self, answers: &mut impl Write) -> Result<Option<Event>, Stop> {
-        while self.lines.advance(answers)? {
-            let line = self.lines.line();
-            match script::parse(line).map_err(|mistake| self.lines.bad(mistake))? {
-                None => {}
-                Some(Command::Event(event)) => return Ok(Some(event)),
-                Some(command) => {
-                    let set = prepare(command, line, &mut self.scene, self.folder);
-                    set.map_err(|mistake| self.lines.bad(mistake))?;
+    let mut scene = Scene::new();
+    let mut lines = Lines::new(script);
+    while lines.advance(out)? {
+        let line = lines.line();
+        match script::parse(line).map_err(|mistake| lines.bad(mistake))? {
+            None => {}
+            Some(Command::Event(event)) => {
+                let before = scene.hart;
+                let overwritten = match explainer {
+                    Some(_) => overwritten(&event, &scene),
+                    None => 0,
+                };
+                let came = perform(&event, &mut scene);
+                write_answer(out, &came, &scene.hart).map_err(Stop::Answers)?;
+                if let Some(explainer) = &explainer {
+                    let happened = Happened {
+                        line: lines.number(),
+                        text: script::text(line),
+                        event: &event,
+                        came: &came,
+                        before: &before,
+                        after: &scene.hart,
+                        image: scene.image(),
+                        overwritten,
+                    };
+                    explainer.explain(out, &happened).map_err(Stop::Answers)?;
                 }
             }
+            Some(command) => {
+                let set = prepare(command, line, &mut scene, folder);
+                set.map_err(|mistake| lines.bad(mistake))?;
+            }
         }
-        Ok(None)
     }
-
-    /// The number of the event's line.
-    pub fn line(&self) -> u64 {
-        self.lines.number()
-    }
-
-    /// Its words.
-    pub fn text(&self) -> String {
-        script::text(self.lines.line())
-    }
-
-    /// Performs the event; writes its answer, and what explains it.
-    pub fn answer(
-        &mut self,
-        event: &Event,
-        explainer: Option<&Explainer>,
-        out: &mut impl Write,
-    ) -> Result<(), Stop> {
-        let before = self.scene.hart;
-        let overwritten = match explainer {
-            Some(_) => overwritten(event, &self.scene),
-            None => 0,
-        };
-        let came = perform(event, &mut self.scene).map_err(|sentence| {
-            let at = script::offset(self.lines.line(), 0);
-            self.lines.bad(Mistake::at(at, sentence))
-        })?;
-        let scene = &self.scene;
-        answers::write(out, &came, &scene.hart).map_err(Stop::Answers)?;
-        if let Some(explainer) = explainer {
-            let happened = Happened {
-                line: self.line(),
-                text: self.text(),
-                event,
-                came: &came,
-                before: &before,
-                after: &scene.hart,
-                image: Extent::of(scene.image()),
-                stepper: scene.stepper.as_ref(),
-                overwritten,
-            };
-            explainer.explain(out, &happened).map_err(Stop::Answers)?;
-        }
-        Ok(())
-    }
+    Ok(())
 }
 
 /// Performs a line that sets the scene.
@@ -125,11 +74,11 @@ fn prepare(command: Command, line: &[u8], scene: &mut Scene, folder: &Path) -> R
     }
 }
 
-/// Performs an event, or says why its line is bad.
-fn perform(event: &Event, scene: &mut Scene) -> Result<Came, String> {
+/// Performs an event.
+fn perform(event: &Event, scene: &mut Scene) -> Came {
     let before = scene.hart;
     let hart = &mut scene.hart;
-    Ok(match *event {
+    match *event {
         Event::Translate(access) => {
             Came::Translated(Box::new(before.translate(scene.image(), access)))
         }
@@ -152,10 +101,8 @@ fn perform(event: &Event, scene: &mut Scene) -> Result<Came, String> {
         }),
         Event::Guest(access, word) => perform_guest(access, word, scene),
         Event::Interrupt => Came::Stepped(hart.interrupt()),
-        Event::Start(access) => Came::Started(scene.start(access).place.end()),
-        Event::Press => Came::Pressed(scene.press()?),
         Event::Show => Came::Shown,
-    })
+    }
 }
 
 /// Performs a hypervisor load or store.
@@ -193,4 +140,77 @@ fn overwritten(event: &Event, scene: &Scene) -> u64 {
         }
         _ => 0,
     }
+}
+
+/// Writes an event's answer.
+fn write_answer(out: &mut impl Write, came: &Came, hart: &Hart) -> io::Result<()> {
+    match came {
+        Came::Translated(translation) => write_translation(out, translation),
+        Came::Accessed(accessed) => write_value(out, accessed.outcome, accessed.value),
+        Came::Loaded(loaded) => {
+            write_value(out, loaded.outcome, loaded.value)?;
+            write_reads(out, loaded.reads())
+        }
+        Came::Stored(stored) => {
+            write_step(out, stored.outcome)?;
+            write_reads(out, stored.reads())
+        }
+        Came::Stepped(outcome) => write_step(out, *outcome),
+        Came::Shown => write_hart(out, hart),
+    }
+}
+
+/// What an event that answers a value came to.
+fn write_value(out: &mut impl Write, outcome: Outcome, value: u64) -> io::Result<()> {
+    match outcome {
+        Outcome::Refused(number) => writeln!(out, "refused {number:x}"),
+        _ => writeln!(out, "value {value:x}"),
+    }
+}
+
+/// What an event that answers no value came to.
+fn write_step(out: &mut impl Write, outcome: Outcome) -> io::Result<()> {
+    match outcome {
+        Outcome::Refused(number) => writeln!(out, "refused {number:x}"),
+        _ => writeln!(out, "ok"),
+    }
+}
+
+fn write_translation(out: &mut impl Write, translation: &Translation) -> io::Result<()> {
+    match translation.answer() {
+        Answer::Address(address) => writeln!(out, "address {address:x}")?,
+        Answer::Refused(number) => writeln!(out, "refused {number:x}")?,
+        Answer::Fault(fault) => writeln!(
+            out,
+            "fault {:x} {:x} {:x} {:x} {:x}",
+            fault.cause,
+            fault.value,
+            fault.second,
+            fault.word,
+            u64::from(fault.flag)
+        )?,
+    }
+    write_reads(out, translation.reads())
+}
+
+/// The list.
+fn write_reads(out: &mut impl Write, reads: &[Read]) -> io::Result<()> {
+    for read in reads {
+        writeln!(
+            out,
+            "read {:x} {:x} {:x} {:x}",
+            read.stage, read.level, read.address, read.value
+        )?;
+    }
+    Ok(())
+}
+
+/// The hart, as a script.
+fn write_hart(out: &mut impl Write, hart: &Hart) -> io::Result<()> {
+    let (v, privilege, pc) = (hart.v(), hart.privilege(), hart.pc());
+    writeln!(out, "hart {v:x} {privilege:x} {pc:x}")?;
+    for (number, value) in hart.registers() {
+        writeln!(out, "reg {number:x} {value:x}")?;
+    }
+    Ok(())
 }

@@ -1,11 +1,9 @@
-//! The scene of a script: an image, a hart, and the translation that is taken one read at a time.
+//! The scene of a script: an image and a hart.
 
 use crate::registers;
-use crate::stand_in::Press;
-use crate::stepper::Stepper;
 use crate::suggest::shown;
 use crate::views;
-use balcumentri::{Access, Hart, Image, ImageMut};
+use balcumentri::{Hart, Image, ImageMut};
 use std::fs::File;
 use std::io::{self, Read};
 use std::path::Path;
@@ -16,13 +14,11 @@ const LARGEST: u64 = 0x4000_0000;
 /// The longest path that can name a file, in bytes.
 const LONGEST_PATH: usize = 4096;
 
-/// What the events meet.
+/// The image and the hart that the events meet.
 pub struct Scene {
     base: u64,
     bytes: Vec<u8>,
     pub hart: Hart,
-    /// The last start's.
-    pub stepper: Option<Stepper>,
 }
 
 impl Scene {
@@ -32,7 +28,6 @@ impl Scene {
             base: 0,
             bytes: Vec::new(),
             hart: Hart::new(0, 3, 0),
-            stepper: None,
         }
     }
 
@@ -50,23 +45,6 @@ impl Scene {
             bytes: &mut self.bytes,
         };
         (&mut self.hart, image)
-    }
-
-    /// Starts a translation that is taken one read at a time, of the hart and image as they are now.
-    pub fn start(&mut self, access: Access) -> &Stepper {
-        let stepper = Stepper::start(self.hart, self.image(), access);
-        self.stepper.insert(stepper)
-    }
-
-    /// Its next read, on the image as it is now.
-    pub fn press(&mut self) -> Result<Press, String> {
-        let image = Image {
-            base: self.base,
-            bytes: &self.bytes,
-        };
-        let stepper = self.stepper.as_mut();
-        let stepper = stepper.ok_or("press comes before any start, so there is nothing to read")?;
-        Ok(stepper.press(image))
     }
 
     /// A new image of zero bytes.

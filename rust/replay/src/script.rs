@@ -1,7 +1,6 @@
 //! The script language: what a line says.
 
 use crate::forms::{value, Form, FORMS, MOST};
-use crate::names;
 use crate::suggest;
 use balcumentri::{Access, Fault, Kind};
 
@@ -142,10 +141,6 @@ pub enum Event {
     Guest(GuestAccess, u32),
     /// The interrupt that is due is taken.
     Interrupt,
-    /// A translation that is taken one read at a time begins.
-    Start(Access),
-    /// Its next read.
-    Press,
     Show,
 }
 
@@ -174,11 +169,11 @@ pub fn parse(line: &[u8]) -> Result<Option<Command<'_>>, Mistake> {
     };
     let form = FORMS.iter().find(|form| form.word.as_bytes() == word);
     let form = form.ok_or_else(|| Mistake::at(at, suggest::word(word)))?;
-    Ok(Some(match form.word {
-        "file" => words.file(form)?,
-        "start" => Command::Event(words.start(form)?),
-        word => command(word, words.numbers(form)?),
-    }))
+    if form.word == "file" {
+        return words.file(form).map(Some);
+    }
+    let numbers = words.numbers(form)?;
+    Ok(Some(command(form.word, numbers)))
 }
 
 /// The offset at which a word of the line begins, the first being number 0.
@@ -267,7 +262,6 @@ fn command(word: &str, [a, b, c, d, e]: [u64; MOST]) -> Command<'static> {
         "hlv" => guest(Transfer::Load { signed: b == 1 }, c, d),
         "hlvx" => guest(Transfer::LoadX, b, c),
         "hsv" => guest(Transfer::Store { value: c }, b, d),
-        "press" => Event::Press,
         _ => Event::Show,
     })
 }
@@ -300,33 +294,13 @@ impl<'a> Words<'a> {
         for (number, name) in numbers.iter_mut().zip(form.takes) {
             *number = self.number(form, name)?;
         }
-        self.end(form)?;
-        Ok(numbers)
-    }
-
-    /// Nothing more.
-    fn end(&mut self, form: &Form) -> Result<(), Mistake> {
         match self.next() {
-            None => Ok(()),
+            None => Ok(numbers),
             Some((at, more)) => {
                 let sentence = format!("{}; {} is too much", form.usage(), suggest::shown(more));
                 Err(Mistake::at(at, sentence))
             }
         }
-    }
-
-    /// The kind of access, which is a word, and the numbers behind it.
-    fn start(&mut self, form: &Form) -> Result<Event, Mistake> {
-        let (at, word) = self.next().ok_or_else(|| self.missing(form, "KIND"))?;
-        let mut kinds = names::KINDS.into_iter();
-        let kind = kinds.find(|kind| names::kind(*kind).as_bytes() == word);
-        let access = Access {
-            kind: kind.ok_or_else(|| Mistake::at(at, suggest::kind(word)))?,
-            address: self.number(form, "ADDRESS")?,
-            width: self.number(form, "WIDTH")?,
-        };
-        self.end(form)?;
-        Ok(Event::Start(access))
     }
 
     /// The next number, by its name.

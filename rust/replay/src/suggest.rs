@@ -1,7 +1,6 @@
 //! Sentences about words that are none of the language, with what to write instead.
 
 use crate::forms::{value, Form, FORMS};
-use crate::names;
 use crate::registers;
 
 /// How many characters of a word or a path a sentence shows.
@@ -62,10 +61,10 @@ pub fn word(text: &[u8]) -> String {
             shown(text)
         );
     }
-    let lower = lower(text);
+    let lower = text[..text.len().min(SHOWN)].to_ascii_lowercase();
     let words: Vec<&str> = FORMS.iter().map(|form| form.word).collect();
-    let hint = if let Some(hint) = upper_case(&lower, &words) {
-        hint
+    let hint = if words.iter().any(|word| word.as_bytes() == lower) {
+        format!(": words are lower case, {}", shown(&lower))
     } else if let Some(line) = with_width(&lower) {
         format!(": the width is a number, {}", shown(line.as_bytes()))
     } else {
@@ -77,28 +76,6 @@ pub fn word(text: &[u8]) -> String {
         })
     };
     format!("{} is no word of the language{hint}", shown(text))
-}
-
-/// A word where a kind of access belongs.
-pub fn kind(text: &[u8]) -> String {
-    let lower = lower(text);
-    let kinds = names::KINDS.map(names::kind);
-    let hint = upper_case(&lower, &kinds).unwrap_or_else(|| meant(&nearest(&lower, &kinds)));
-    format!(
-        "{} is no KIND, which is fetch, load or store{hint}",
-        shown(text)
-    )
-}
-
-/// As much of a word as is looked at, in lower case.
-fn lower(text: &[u8]) -> Vec<u8> {
-    text[..text.len().min(SHOWN)].to_ascii_lowercase()
-}
-
-/// What follows where a word is one of these but for its case.
-fn upper_case(lower: &[u8], words: &[&str]) -> Option<String> {
-    let found = words.iter().any(|word| word.as_bytes() == lower);
-    found.then(|| format!(": words are lower case, {}", shown(lower)))
 }
 
 /// The line for an access that was named as in the manual, with its width.
@@ -126,7 +103,7 @@ fn with_width(lower: &[u8]) -> Option<String> {
 /// A word where a number belongs, which may be that of a register.
 pub fn number(text: &[u8], register: bool) -> String {
     let bad = format!("{} is no number: ", shown(text));
-    let lower = lower(text);
+    let lower = text[..text.len().min(SHOWN)].to_ascii_lowercase();
     let digits: Vec<u8> = lower
         .iter()
         .copied()

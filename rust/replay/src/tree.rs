@@ -9,97 +9,17 @@ struct Node {
     below: Vec<Node>,
 }
 
-/// How a picture is made: in which colours, with the entry that was just shown, and whether the walk goes on.
-pub struct Drawing<'a> {
-    pub paint: Paint,
-    pub shown: Option<&'a Step>,
-    pub going: bool,
-}
-
-impl Drawing<'_> {
-    /// The lines of the picture.
-    pub fn lines(&self, heading: String, walk: &Walk, ending: String) -> Vec<String> {
-        let mut below: Vec<Node> = [&walk.first, &walk.second]
-            .into_iter()
-            .flatten()
-            .map(|stage| self.stage(stage))
-            .collect();
-        below.push(leaf(ending));
-        let mut lines = vec![heading];
-        draw(&below, "", &mut lines);
-        lines
-    }
-
-    fn stage(&self, stage: &Stage) -> Node {
-        let address = stage.address;
-        let (first, second) = (
-            |name| self.paint.first(name),
-            self.paint.second("second stage, hgatp"),
-        );
-        let text = match stage.part {
-            Part::Satp => format!("{}: virtual {address:x}", first("first stage, satp")),
-            Part::Vsatp => format!("{}: virtual {address:x}", first("first stage, vsatp")),
-            Part::GuestEntry(_) => format!("{second}: guest physical {address:x}, the guest entry"),
-            Part::Access => format!("{second}: guest physical {address:x}, the access"),
-        };
-        Node {
-            text,
-            below: self.step(stage, &stage.steps).into_iter().collect(),
-        }
-    }
-
-    /// The first of the steps, the others below it.
-    fn step(&self, stage: &Stage, steps: &[Step]) -> Option<Node> {
-        let (step, others) = steps.split_first()?;
-        let guest = if stage.part == Part::Vsatp {
-            "guest physical "
-        } else {
-            ""
-        };
-        let place = format!(
-            "level {:x}: table {guest}{:x}, entry {:x} at {guest}{:x}",
-            step.level,
-            step.table,
-            step.index,
-            step.address()
-        );
-        let found = self.found(stage.part, step);
-        let mut below = Vec::new();
-        let text = match &step.through {
-            None => format!("{place}: {found}"),
-            Some(through) => {
-                below.push(self.stage(through));
-                let machine = step.machine;
-                below.extend(machine.map(|machine| leaf(format!("machine {machine:x}: {found}"))));
-                place
-            }
-        };
-        below.extend(self.step(stage, others));
-        Some(Node { text, below })
-    }
-
-    /// What was found at an entry: its flags, where it leads, and the rule that it breaks.
-    fn found(&self, part: Part, step: &Step) -> String {
-        let Some(read) = step.read else {
-            return if self.going {
-                self.paint.mark("next")
-            } else {
-                self.paint.bad("outside the image")
-            };
-        };
-        let mut words = format!(
-            "{}, {}",
-            walk::flags(read.value),
-            walk::leads(part, step.level, read.value)
-        );
-        if let Some(rule) = step.broken {
-            words += &format!("; {}", self.paint.bad(rule));
-        }
-        if self.shown.is_some_and(|shown| std::ptr::eq(shown, step)) {
-            words += &format!(" {}", self.paint.mark("(this press)"));
-        }
-        words
-    }
+/// The lines of the picture.
+pub fn drawn(paint: Paint, heading: String, walk: &Walk, ending: String) -> Vec<String> {
+    let mut below: Vec<Node> = [&walk.first, &walk.second]
+        .into_iter()
+        .flatten()
+        .map(|stage| stage_node(paint, stage))
+        .collect();
+    below.push(leaf(ending));
+    let mut lines = vec![heading];
+    draw(&below, "", &mut lines);
+    lines
 }
 
 fn draw(nodes: &[Node], indent: &str, lines: &mut Vec<String>) {
@@ -119,5 +39,72 @@ fn leaf(text: String) -> Node {
     Node {
         text,
         below: Vec::new(),
+    }
+}
+
+fn stage_node(paint: Paint, stage: &Stage) -> Node {
+    let address = stage.address;
+    let text = match stage.part {
+        Part::Satp => format!("{}: virtual {address:x}", paint.first("first stage, satp")),
+        Part::Vsatp => format!("{}: virtual {address:x}", paint.first("first stage, vsatp")),
+        Part::GuestEntry => format!(
+            "{}: guest physical {address:x}, the guest entry",
+            paint.second("second stage, hgatp")
+        ),
+        Part::Access => format!(
+            "{}: guest physical {address:x}, the access",
+            paint.second("second stage, hgatp")
+        ),
+    };
+    Node {
+        text,
+        below: step_node(paint, stage, &stage.steps).into_iter().collect(),
+    }
+}
+
+/// The first of the steps, the others below it.
+fn step_node(paint: Paint, stage: &Stage, steps: &[Step]) -> Option<Node> {
+    let (step, others) = steps.split_first()?;
+    let guest = if stage.part == Part::Vsatp {
+        "guest physical "
+    } else {
+        ""
+    };
+    let place = format!(
+        "level {:x}: table {guest}{:x}, entry {:x} at {guest}{:x}",
+        step.level,
+        step.table,
+        step.index,
+        step.address()
+    );
+    let mut below = Vec::new();
+    let text = match (&step.through, step.read) {
+        (None, None) => format!("{place}: {}", paint.bad("outside the image")),
+        (None, Some(read)) => format!("{place}: {}", found(paint, stage.part, step, read.value)),
+        (Some(through), read) => {
+            below.push(stage_node(paint, through));
+            let found = read.map_or_else(
+                || paint.bad("outside the image"),
+                |read| found(paint, stage.part, step, read.value),
+            );
+            let machine = step.machine;
+            below.extend(machine.map(|machine| leaf(format!("machine {machine:x}: {found}"))));
+            place
+        }
+    };
+    below.extend(step_node(paint, stage, others));
+    Some(Node { text, below })
+}
+
+/// An entry: its flags, where it leads, and the rule that it breaks.
+fn found(paint: Paint, part: Part, step: &Step, entry: u64) -> String {
+    let words = format!(
+        "{}, {}",
+        walk::flags(entry),
+        walk::leads(part, step.level, entry)
+    );
+    match step.broken {
+        Some(rule) => format!("{words}; {}", paint.bad(rule)),
+        None => words,
     }
 }

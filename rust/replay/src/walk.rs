@@ -1,5 +1,5 @@
-//! An access followed along its list of reads: in which table each entry stands, where it leads, and where and why the walk ended,
-//! or which entry is next. It explains answers and decides none.
+//! An access followed along its list of reads: in which table each entry stands, where it leads, and where and why the walk ended.
+//! It explains answers and decides none.
 
 use crate::names::Mode;
 use crate::registers::{
@@ -44,10 +44,6 @@ pub struct Table {
 }
 
 impl Table {
-    pub fn levels(self) -> u64 {
-        self.levels
-    }
-
     /// The level of the root.
     fn top(self) -> u64 {
         self.levels - 1
@@ -158,8 +154,8 @@ pub enum Part {
     Satp,
     /// The first stage with effective V=1.
     Vsatp,
-    /// The second stage for the guest entry of a level.
-    GuestEntry(u64),
+    /// The second stage for a guest entry.
+    GuestEntry,
     /// The second stage for the access.
     Access,
 }
@@ -187,7 +183,7 @@ pub struct Step {
     pub through: Option<Stage>,
     /// The entry's machine address, if the walk came so far.
     pub machine: Option<u64>,
-    /// What was read there: nothing yet if the entry is next, and nothing if it lies outside the image.
+    /// What was read there, if it lies in the image.
     pub read: Option<Read>,
     /// The rule that the entry breaks.
     pub broken: Option<&'static str>,
@@ -212,43 +208,21 @@ impl fmt::Display for Stop {
     }
 }
 
-/// A walk: its first stage, its second stage for the access, and the machine address that it came to, or why it ended with a fault;
-/// no end while it goes on.
+/// A walk: its first stage, its second stage for the access, and the machine address that it came to, or why it ended with a fault.
 pub struct Walk {
     pub first: Option<Stage>,
     pub second: Option<Stage>,
-    pub end: Option<Result<u64, Stop>>,
+    pub end: Result<u64, Stop>,
 }
 
-impl Walk {
-    /// Why it ended with a fault.
-    pub fn why(&self) -> Option<String> {
-        let stop = self.end.as_ref()?.as_ref().err()?;
-        Some(stop.to_string())
-    }
-}
-
-/// How an access went that was not refused.
-#[derive(Clone, Copy, PartialEq, Eq)]
-pub enum Course {
-    /// It goes on behind the entries read so far.
-    Going,
-    Faulted,
-    Reached,
-}
-
-/// Follows an access that was not refused along the entries read for it.
-pub fn follow(view: &View, reads: &[Read], course: Course) -> Walk {
-    let mut follower = Follower {
-        view,
-        reads: reads.iter(),
-        going: course == Course::Going,
-    };
+/// Follows an access that was not refused along the entries read for it. It either faulted or came to its end.
+pub fn follow(view: &View, reads: &[Read], faulted: bool) -> Walk {
+    let reads = reads.iter();
     let (mut first, mut second) = (None, None);
-    let end = match follower.walk(&mut first, &mut second) {
-        Ok(address) if course == Course::Faulted => at_access(outside(address)).map(Err),
-        Ok(address) => Some(Ok(address)),
-        Err(stop) => stop.map(Err),
+    let reached = Follower { view, reads }.walk(&mut first, &mut second);
+    let end = match reached {
+        Ok(address) if faulted => Err(at_access(outside(address))),
+        reached => reached,
     };
     Walk { first, second, end }
 }
@@ -256,15 +230,11 @@ pub fn follow(view: &View, reads: &[Read], course: Course) -> Walk {
 struct Follower<'a> {
     view: &'a View,
     reads: Iter<'a, Read>,
-    going: bool,
 }
-
-/// Where and why a walk is not followed further: nowhere if it goes on, behind the list.
-type Halt = Option<Stop>;
 
 impl Follower<'_> {
     /// Follows the stages, each put into its place; the machine address that they yield, or why they don't.
-    fn walk(&mut self, first: &mut Option<Stage>, second: &mut Option<Stage>) -> Result<u64, Halt> {
+    fn walk(&mut self, first: &mut Option<Stage>, second: &mut Option<Stage>) -> Result<u64, Stop> {
         let Access { address, width, .. } = self.view.access;
         if !address.is_multiple_of(width) {
             let rule = format!("{address:x} is not a multiple of {width:x}");
@@ -280,7 +250,7 @@ impl Follower<'_> {
     }
 
     /// Follows a stage, which is put into `stage`; what it yields, or why it doesn't.
-    fn stage(&mut self, from: Table, address: u64, stage: &mut Option<Stage>) -> Result<u64, Halt> {
+    fn stage(&mut self, from: Table, address: u64, stage: &mut Option<Stage>) -> Result<u64, Stop> {
         let part = from.part;
         let stage = stage.insert(Stage {
             part,
@@ -311,12 +281,12 @@ impl Follower<'_> {
     }
 
     /// Follows the way to one entry, and what it leads to.
-    fn step(&mut self, part: Part, address: u64, step: &mut Step) -> Result<Next, Halt> {
+    fn step(&mut self, part: Part, address: u64, step: &mut Step) -> Result<Next, Stop> {
         let level = step.level;
         let mut at = step.address();
         if let (Part::Vsatp, Some(second)) = (part, self.view.second) {
             let entry = Table {
-                part: Part::GuestEntry(level),
+                part: Part::GuestEntry,
                 ..second
             };
             at = self.stage(entry, at, &mut step.through)?;
@@ -324,9 +294,6 @@ impl Follower<'_> {
         step.machine = Some(at);
         step.read = self.reads.next().copied();
         let Some(read) = step.read else {
-            if self.going {
-                return Err(None);
-            }
             let rule = format!("the entry at {}", outside(at));
             return Err(stop(part, address, Some(level), rule));
         };
@@ -338,7 +305,7 @@ impl Follower<'_> {
 
     /// What an entry leads to, or the rule that it breaks.
     fn judged(&self, part: Part, level: u64, entry: u64) -> Result<Next, &'static str> {
-        let pointer = is_pointer(entry);
+        let pointer = !has(entry, R) && !has(entry, X);
         let low_ppn = (1 << (offset_bits(level) - 12)) - 1;
         if !has(entry, V) {
             Err("V is 0")
@@ -366,7 +333,7 @@ impl Follower<'_> {
 
     /// The rules of a leaf alone.
     fn leaf(&self, part: Part, entry: u64) -> Result<(), &'static str> {
-        let stores = self.view.needs == Right::W && !matches!(part, Part::GuestEntry(_));
+        let stores = self.view.needs == Right::W && part != Part::GuestEntry;
         if !has(entry, A) {
             return Err("A is 0");
         }
@@ -386,7 +353,7 @@ impl Follower<'_> {
         let View { mxr, guest_mxr, .. } = *self.view;
         let reads = |opens| has(entry, R) || opens && has(entry, X);
         let (allowed, rule) = match (part, self.view.needs) {
-            (Part::GuestEntry(_), _) => (reads(false), "a read of a guest entry needs R"),
+            (Part::GuestEntry, _) => (reads(false), "a read of a guest entry needs R"),
             (_, Right::W) => (has(entry, W), "a store needs W"),
             (_, Right::X) if self.view.is_fetch() => (has(entry, X), "a fetch needs X"),
             (_, Right::X) => (has(entry, X), "HLVX needs X"),
@@ -426,27 +393,27 @@ enum Next {
     Page(u64),
 }
 
-fn at_access(rule: String) -> Halt {
-    Some(Stop {
+fn at_access(rule: String) -> Stop {
+    Stop {
         place: "the access".to_owned(),
         rule,
-    })
+    }
 }
 
-fn stop(part: Part, address: u64, level: Option<u64>, rule: impl Into<String>) -> Halt {
+fn stop(part: Part, address: u64, level: Option<u64>, rule: impl Into<String>) -> Stop {
     let part = match part {
         Part::Satp => "first stage (satp)".to_owned(),
         Part::Vsatp => "first stage (vsatp)".to_owned(),
-        Part::GuestEntry(_) => format!("second stage for the guest entry at {address:x}"),
+        Part::GuestEntry => format!("second stage for the guest entry at {address:x}"),
         Part::Access => format!("second stage for the access at {address:x}"),
     };
-    Some(Stop {
+    Stop {
         place: match level {
             Some(level) => format!("{part}, level {level:x}"),
             None => part,
         },
         rule: rule.into(),
-    })
+    }
 }
 
 /// What is missing for a machine address.
@@ -465,11 +432,6 @@ const D: u32 = 7;
 
 fn has(entry: u64, flag: u32) -> bool {
     entry >> flag & 1 == 1
-}
-
-/// Whether an entry has neither R nor X.
-pub fn is_pointer(entry: u64) -> bool {
-    !has(entry, R) && !has(entry, X)
 }
 
 /// The table or page of an entry's PPN.

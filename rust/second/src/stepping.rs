@@ -11,8 +11,9 @@ use crate::reasons::Reason;
 use crate::registers::atp_levels;
 use crate::trap::Refusal;
 use crate::walk::{
-    first_stage_index, leaf_result, manner, root_table, second_stage_index, top_level, Access,
-    Answer, Entry, Fault, List, Manner, Purpose, Read, Stage, Walk, PLACES,
+    effective_mode, first_stage_bits, first_stage_index, first_stage_takes, leaf_result,
+    root_table, second_stage_bits, second_stage_index, second_stage_takes, top_level, Access,
+    Answer, Entry, Fault, List, Manner, Purpose, Read, Rule, Stage, Walk, PLACES,
 };
 
 /// A place: what is kept of a walk from one press to the next. Of the image it is the base and the length alone.
@@ -417,6 +418,88 @@ fn end(walk: &Walk, machine: Machine) -> Result<State, Fault> {
         answer: Answer::Address(machine),
         reason: None,
     }))
+}
+
+/// How an access is made, or why it is refused. "Order: 2, then 1, then the call's own", which is 3.
+fn manner(hart: &Hart, image: &Image, access: &Access) -> Result<Manner, Refusal> {
+    let mode = hart.check().map_err(Refusal::Hart)?;
+    if let Some(bad) = image.refusal() {
+        return Err(Refusal::Image(bad));
+    }
+    if let Some(bad) = access.refusal() {
+        return Err(Refusal::Access(bad));
+    }
+    Ok(Manner {
+        mode: effective_mode(hart, mode, access.kind),
+        needs_x: false,
+    })
+}
+
+impl<'a> Walk<'a> {
+    /// A walk with this list so far.
+    fn new(
+        hart: &'a Hart,
+        image: &'a Image,
+        access: &'a Access,
+        manner: Manner,
+        list: List,
+    ) -> Walk<'a> {
+        Walk {
+            hart,
+            image,
+            access,
+            mode: manner.mode,
+            needs_x: manner.needs_x,
+            list,
+        }
+    }
+
+    /// "An entry in the image is read, eight bytes, and listed; then the fault rules above are tried."
+    fn visit(&mut self, stage: Stage, level: u64, place: Machine) -> Result<Entry, Fault> {
+        let entry = self.read_entry(stage, level, place)?;
+        let why = |rule| self.why_of_entry(rule, stage, level, place);
+        match stage {
+            Stage::First => self
+                .first_stage_entry(entry, level)
+                .map_err(|rule| self.page_fault(why(rule))),
+            Stage::Second(guest, purpose) => self
+                .second_stage_entry(entry, level, purpose)
+                .map_err(|rule| self.guest_page_fault(guest, purpose, why(rule))),
+        }
+    }
+
+    /// "An entry outside the image: access fault 1, 5, 7 by the original access."
+    fn entry_outside(&self, stage: Stage, level: u64, place: Machine) -> Fault {
+        let why = self.why_of_entry(Rule::EntryOutside, stage, level, place);
+        self.access_fault(why)
+    }
+
+    /// "A stage that is on begins by testing its address's high bits."
+    fn test_first_stage(&self, levels: u64) -> Result<(), Fault> {
+        let address = self.access.address;
+        let bits = first_stage_bits(levels);
+        if !first_stage_takes(address, bits) {
+            let why = self.why_of_stage(Rule::HighBits(bits), Stage::First, address);
+            return Err(self.page_fault(why));
+        }
+        Ok(())
+    }
+
+    /// The same test, of a guest physical address.
+    fn test_second_stage(
+        &self,
+        levels: u64,
+        guest: GuestPhysical,
+        purpose: Purpose,
+    ) -> Result<(), Fault> {
+        let bits = second_stage_bits(levels);
+        if !second_stage_takes(guest, bits) {
+            let stage = Stage::Second(guest, purpose);
+            let why = self.why_of_stage(Rule::HighBits(bits), stage, guest.0);
+            return Err(self.guest_page_fault(guest, purpose, why));
+        }
+        Ok(())
+    }
 }
 
 /// "Any fault, of either stage, ends the walk and is its answer."

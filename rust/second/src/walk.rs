@@ -272,11 +272,22 @@ impl Translation {
     }
 }
 
-/// A translation. "A refused access answers its number [...] with the list empty."
+/// A translation. "Order: 2, then 1, then the call's own", which is 3. "A refused access answers its number [...] with the
+/// list empty."
 pub fn translate(hart: &Hart, image: &Image, access: &Access) -> Translation {
-    let manner = match manner(hart, image, access) {
-        Ok(manner) => manner,
-        Err(refusal) => return refused(refusal),
+    let mode = match hart.check() {
+        Ok(mode) => mode,
+        Err(bad) => return refused(Refusal::Hart(bad)),
+    };
+    if let Some(bad) = image.refusal() {
+        return refused(Refusal::Image(bad));
+    }
+    if let Some(bad) = access.refusal() {
+        return refused(Refusal::Access(bad));
+    }
+    let manner = Manner {
+        mode: effective_mode(hart, mode, access.kind),
+        needs_x: false,
     };
     let Walked { end, list } = walk(hart, image, access, manner);
     Translation {
@@ -299,21 +310,6 @@ pub struct Manner {
     pub needs_x: bool,
 }
 
-/// How an access is made, or why it is refused. "Order: 2, then 1, then the call's own", which is 3.
-pub(crate) fn manner(hart: &Hart, image: &Image, access: &Access) -> Result<Manner, Refusal> {
-    let mode = hart.check().map_err(Refusal::Hart)?;
-    if let Some(bad) = image.refusal() {
-        return Err(Refusal::Image(bad));
-    }
-    if let Some(bad) = access.refusal() {
-        return Err(Refusal::Access(bad));
-    }
-    Ok(Manner {
-        mode: effective_mode(hart, mode, access.kind),
-        needs_x: false,
-    })
-}
-
 /// What a walk gives: the machine address or the fault, and the list of reads.
 #[derive(Clone, Copy, PartialEq, Eq, Debug)]
 pub struct Walked {
@@ -325,7 +321,14 @@ pub struct Walked {
 
 /// The walk of an access that is not refused.
 pub fn walk(hart: &Hart, image: &Image, access: &Access, manner: Manner) -> Walked {
-    let mut walk = Walk::new(hart, image, access, manner, List::default());
+    let mut walk = Walk {
+        hart,
+        image,
+        access,
+        mode: manner.mode,
+        needs_x: manner.needs_x,
+        list: List::default(),
+    };
     Walked {
         end: walk.whole(),
         list: walk.list,
@@ -585,29 +588,11 @@ pub(crate) struct Walk<'a> {
     /// The effective mode.
     pub(crate) mode: Mode,
     /// Whether it is HLVX.
-    needs_x: bool,
+    pub(crate) needs_x: bool,
     pub(crate) list: List,
 }
 
-impl<'a> Walk<'a> {
-    /// A walk with this list so far.
-    pub(crate) fn new(
-        hart: &'a Hart,
-        image: &'a Image,
-        access: &'a Access,
-        manner: Manner,
-        list: List,
-    ) -> Walk<'a> {
-        Walk {
-            hart,
-            image,
-            access,
-            mode: manner.mode,
-            needs_x: manner.needs_x,
-            list,
-        }
-    }
-
+impl Walk<'_> {
     /// The whole walk of an access that is not refused.
     fn whole(&mut self) -> Result<Machine, Fault> {
         self.alignment()?;
@@ -676,7 +661,7 @@ impl<'a> Walk<'a> {
     }
 
     /// A rule about what a stage translates.
-    fn why_of_stage(&self, rule: Rule, stage: Stage, address: u64) -> Why {
+    pub(crate) fn why_of_stage(&self, rule: Rule, stage: Stage, address: u64) -> Why {
         Why {
             part: self.part(stage),
             guest: stage.guest(),
@@ -685,7 +670,7 @@ impl<'a> Walk<'a> {
     }
 
     /// A rule about an entry of a stage.
-    fn why_of_entry(&self, rule: Rule, stage: Stage, level: u64, place: Machine) -> Why {
+    pub(crate) fn why_of_entry(&self, rule: Rule, stage: Stage, level: u64, place: Machine) -> Why {
         Why {
             level: Some(level),
             ..self.why_of_stage(rule, stage, place.0)
@@ -703,55 +688,40 @@ impl<'a> Walk<'a> {
     }
 
     /// "access fault 1, 5, 7 by the original access".
-    fn access_fault(&self, why: Why) -> Fault {
+    pub(crate) fn access_fault(&self, why: Why) -> Fault {
         self.fault(self.access.kind.access_fault(), 0, 0, why)
     }
 
     /// "page fault 12, 13, 15 (fetch, load, store)".
-    fn page_fault(&self, why: Why) -> Fault {
+    pub(crate) fn page_fault(&self, why: Why) -> Fault {
         self.fault(self.access.kind.page_fault(), 0, 0, why)
     }
 
     /// "guest-page fault 20, 21, 23", for a guest entry too: "The manual raises the fault of the original access: 20, 21 or 23. [...]
     /// Value, second value and instruction word stay." (2026-04) "Every guest-page fault's second value is the guest physical
     /// address shifted right by 2."
-    fn guest_page_fault(&self, guest: GuestPhysical, purpose: Purpose, why: Why) -> Fault {
+    pub(crate) fn guest_page_fault(
+        &self,
+        guest: GuestPhysical,
+        purpose: Purpose,
+        why: Why,
+    ) -> Fault {
         let cause = self.access.kind.guest_page_fault();
         let second = guest.0 >> 2;
         self.fault(cause, second, purpose.word(), why)
     }
 
-    // Entries.
-
-    /// "An entry in the image is read, eight bytes, and listed; then the fault rules above are tried."
-    pub(crate) fn visit(
+    /// "An entry in the image is read, eight bytes, and listed"; "An entry outside the image: access fault"; "A read outside
+    /// the image isn't listed."
+    pub(crate) fn read_entry(
         &mut self,
         stage: Stage,
         level: u64,
         place: Machine,
-    ) -> Result<Entry, Fault> {
-        let entry = self.read_entry(stage, level, place)?;
-        let why = |rule| self.why_of_entry(rule, stage, level, place);
-        match stage {
-            Stage::First => self
-                .first_stage_entry(entry, level)
-                .map_err(|rule| self.page_fault(why(rule))),
-            Stage::Second(guest, purpose) => self
-                .second_stage_entry(entry, level, purpose)
-                .map_err(|rule| self.guest_page_fault(guest, purpose, why(rule))),
-        }
-    }
-
-    /// "An entry outside the image: access fault 1, 5, 7 by the original access."
-    pub(crate) fn entry_outside(&self, stage: Stage, level: u64, place: Machine) -> Fault {
-        let why = self.why_of_entry(Rule::EntryOutside, stage, level, place);
-        self.access_fault(why)
-    }
-
-    /// "An entry in the image is read, eight bytes, and listed"; "A read outside the image isn't listed."
-    fn read_entry(&mut self, stage: Stage, level: u64, place: Machine) -> Result<u64, Fault> {
+    ) -> Result<u64, Fault> {
         let Some(value) = self.image.read(place) else {
-            return Err(self.entry_outside(stage, level, place));
+            let why = self.why_of_entry(Rule::EntryOutside, stage, level, place);
+            return Err(self.access_fault(why));
         };
         self.list.push(Read {
             stage: stage.number(),
@@ -771,34 +741,32 @@ impl<'a> Walk<'a> {
         let Some(levels) = atp_levels(atp) else {
             return Ok(address);
         };
-        self.test_first_stage(levels)?;
-        let mut level = top_level(levels);
-        let mut table = root_table(atp);
-        loop {
-            let place = table + 8 * first_stage_index(address, level);
-            let machine = self.place_of_first_stage_entry(place)?;
-            match self.visit(Stage::First, level, machine)? {
-                Entry::Pointer {
-                    level: next,
-                    table: below,
-                } => {
-                    level = next;
-                    table = below;
-                }
-                Entry::Leaf { ppn } => return Ok(leaf_result(ppn, address, level)),
-            }
-        }
-    }
-
-    /// "A stage that is on begins by testing its address's high bits."
-    pub(crate) fn test_first_stage(&self, levels: u64) -> Result<(), Fault> {
-        let address = self.access.address;
         let bits = first_stage_bits(levels);
         if !first_stage_takes(address, bits) {
             let why = self.why_of_stage(Rule::HighBits(bits), Stage::First, address);
             return Err(self.page_fault(why));
         }
-        Ok(())
+        let mut level = top_level(levels);
+        let mut table = root_table(atp);
+        loop {
+            let place = table + 8 * first_stage_index(address, level);
+            let machine = self.place_of_first_stage_entry(place)?;
+            let entry = self.read_entry(Stage::First, level, machine)?;
+            match self.first_stage_entry(entry, level) {
+                Ok(Entry::Pointer {
+                    level: next,
+                    table: below,
+                }) => {
+                    level = next;
+                    table = below;
+                }
+                Ok(Entry::Leaf { ppn }) => return Ok(leaf_result(ppn, address, level)),
+                Err(rule) => {
+                    let why = self.why_of_entry(rule, Stage::First, level, machine);
+                    return Err(self.page_fault(why));
+                }
+            }
+        }
     }
 
     /// "A guest entry is one of the first stage with effective V=1; with the second stage on, its address goes through that
@@ -812,7 +780,7 @@ impl<'a> Walk<'a> {
     }
 
     /// The fault rules for an entry of the first stage.
-    fn first_stage_entry(&self, entry: u64, level: u64) -> Result<Entry, Rule> {
+    pub(crate) fn first_stage_entry(&self, entry: u64, level: u64) -> Result<Entry, Rule> {
         let decoded = decode(entry, level)?;
         if let Entry::Leaf { .. } = decoded {
             accessed_and_dirty(entry, self.access.kind == Kind::Store)?;
@@ -871,46 +839,45 @@ impl<'a> Walk<'a> {
     /// The second stage, by hgatp: it alone turns a guest physical address into a machine address.
     fn second_stage(&mut self, guest: GuestPhysical, purpose: Purpose) -> Result<Machine, Fault> {
         let hgatp = self.hart.hgatp;
+        let stage = Stage::Second(guest, purpose);
         let Some(levels) = atp_levels(hgatp) else {
             return Ok(Machine(guest.0));
         };
-        self.test_second_stage(levels, guest, purpose)?;
+        let bits = second_stage_bits(levels);
+        if !second_stage_takes(guest, bits) {
+            let why = self.why_of_stage(Rule::HighBits(bits), stage, guest.0);
+            return Err(self.guest_page_fault(guest, purpose, why));
+        }
         let mut level = top_level(levels);
         let mut table = root_table(hgatp);
         loop {
             let place = Machine(table + 8 * second_stage_index(guest, level, levels));
-            match self.visit(Stage::Second(guest, purpose), level, place)? {
-                Entry::Pointer {
+            let entry = self.read_entry(stage, level, place)?;
+            match self.second_stage_entry(entry, level, purpose) {
+                Ok(Entry::Pointer {
                     level: next,
                     table: below,
-                } => {
+                }) => {
                     level = next;
                     table = below;
                 }
-                Entry::Leaf { ppn } => return Ok(Machine(leaf_result(ppn, guest.0, level))),
+                Ok(Entry::Leaf { ppn }) => return Ok(Machine(leaf_result(ppn, guest.0, level))),
+                Err(rule) => {
+                    let why = self.why_of_entry(rule, stage, level, place);
+                    return Err(self.guest_page_fault(guest, purpose, why));
+                }
             }
         }
     }
 
-    /// The same test, of a guest physical address.
-    pub(crate) fn test_second_stage(
-        &self,
-        levels: u64,
-        guest: GuestPhysical,
-        purpose: Purpose,
-    ) -> Result<(), Fault> {
-        let bits = second_stage_bits(levels);
-        if !second_stage_takes(guest, bits) {
-            let stage = Stage::Second(guest, purpose);
-            let why = self.why_of_stage(Rule::HighBits(bits), stage, guest.0);
-            return Err(self.guest_page_fault(guest, purpose, why));
-        }
-        Ok(())
-    }
-
     /// The fault rules for an entry of the second stage. "Second stage: always U=1; MXR is mstatus's only. The hart's reads of
     /// guest entries go through the second stage as reads, need R, and MXR doesn't help." Such a read is no store.
-    fn second_stage_entry(&self, entry: u64, level: u64, purpose: Purpose) -> Result<Entry, Rule> {
+    pub(crate) fn second_stage_entry(
+        &self,
+        entry: u64,
+        level: u64,
+        purpose: Purpose,
+    ) -> Result<Entry, Rule> {
         let decoded = decode(entry, level)?;
         if let Entry::Leaf { .. } = decoded {
             let is_store = purpose == Purpose::Access && self.access.kind == Kind::Store;

@@ -89,6 +89,15 @@ fn a_bad_script_ends_with_a_sentence() {
 }
 
 #[test]
+fn starts_and_presses_are_no_words_yet() {
+    for line in ["start load 0 8", "press"] {
+        let output = through_input(format!("read 300 30002573\n{line}\n").as_bytes());
+        assert_eq!(output.stdout, b"value a00000000\nerror 2\n");
+        assert_eq!(output.status.code(), Some(1));
+    }
+}
+
+#[test]
 fn bytes_that_are_no_text() {
     let every_byte: Vec<u8> = (0..=255).collect();
     let output = through_input(&every_byte);

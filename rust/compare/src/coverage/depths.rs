@@ -45,7 +45,7 @@ impl Depths {
     }
 
     /// The depth of a part's tables.
-    pub fn of(self, part: Part) -> Option<u64> {
+    fn of(self, part: Part) -> Option<u64> {
         match (self, part) {
             (Depths::Host(first), Part::Satp) => first,
             (Depths::Guest(first, _), Part::Vsatp) => first,
@@ -164,7 +164,7 @@ pub const REGISTERS: [u64; 3] = [SATP, VSATP, HGATP];
 pub const WAYS: [(u64, bool); 4] = [(SATP, false), (SATP, true), (VSATP, false), (HGATP, false)];
 
 /// The parts that are walks of tables.
-pub const PARTS: [Part; 4] = [
+const PARTS: [Part; 4] = [
     Part::Satp,
     Part::Vsatp,
     Part::HgatpForEntry,
@@ -561,7 +561,7 @@ fn levels_of(atp: u64) -> Option<u64> {
 }
 
 /// The depths of the stages that an access in this effective mode walks; none in M.
-pub fn depths(hart: &Hart, mode: Mode) -> Option<Depths> {
+fn depths(hart: &Hart, mode: Mode) -> Option<Depths> {
     match mode {
         Mode::M => None,
         Mode::U | Mode::Hs => Some(Depths::Host(levels_of(hart.satp))),
@@ -571,7 +571,7 @@ pub fn depths(hart: &Hart, mode: Mode) -> Option<Depths> {
 
 /// The leaves of a walk that ended with an address, each with its part: the last item before a guest entry, the last of the first
 /// stage, the last of all.
-pub fn leaves(items: &[Read], depths: Depths) -> Vec<(Part, Read)> {
+fn leaves(items: &[Read], depths: Depths) -> Vec<(Part, Read)> {
     let mut leaves = Vec::new();
     let last_of_first = items.iter().rposition(|read| read.stage == 1);
     for (place, read) in items.iter().enumerate() {

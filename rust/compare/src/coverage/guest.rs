@@ -417,7 +417,7 @@ fn kind(case: &Case) -> &'static str {
 }
 
 /// Whether two runs of bytes have one in common.
-pub fn meet((one, width): (u64, u64), (other, other_width): (u64, u64)) -> bool {
+fn meet((one, width): (u64, u64), (other, other_width): (u64, u64)) -> bool {
     let end = |start: u64, width: u64| u128::from(start) + u128::from(width);
     u128::from(one) < end(other, other_width) && u128::from(other) < end(one, width)
 }

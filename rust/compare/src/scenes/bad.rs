@@ -2,9 +2,8 @@
 
 use crate::scribe::Scribe;
 
-/// Lines that are bad whatever the image is; the first one where there is no place.
-const ALWAYS_BAD: [&[u8]; 171] = [
-    b"press",
+/// Lines that are bad whatever the image is.
+const ALWAYS_BAD: [&[u8]; 153] = [
     b"nonsense",
     b"Load 0 8",
     b"LOAD 0 8",
@@ -119,23 +118,6 @@ const ALWAYS_BAD: [&[u8]; 171] = [
     b"hsv 1 0 0 100000000",
     b"hsv 1 0 0 ffffffffffffffff",
     b"hsv 1 0 0#0",
-    b"start",
-    b"start load",
-    b"start load 0",
-    b"start load 0 8 0",
-    b"start load 0 8 x",
-    b"start load g 8",
-    b"start load#0 8",
-    b"start 0 8",
-    b"start 0 0 8",
-    b"start Load 0 8",
-    b"start hlv 0 8",
-    b"start read 0 8",
-    b"start start load 0 8",
-    b"starts load 0 8",
-    b"press 0",
-    b"press press",
-    b"Press",
     b"show 0",
     b"show show",
     b"image",
@@ -199,27 +181,23 @@ pub fn end_badly(scribe: &mut Scribe) {
         0 => scribe.rng.pick(&BYTES).to_vec(),
         1 | 2 => put_outside(scribe),
         3 => random_bytes(scribe),
-        _ => {
-            let good = usize::from(scribe.session.place.is_some());
-            scribe.rng.pick(&ALWAYS_BAD[good..]).to_vec()
-        }
+        _ => scribe.rng.pick(&ALWAYS_BAD).to_vec(),
     };
     end_with(scribe, line);
 }
 
-/// Ends three scripts of four, which have no place, with the lines that are always bad, one after the other by the script's place, and
-/// the fourth with any bad line.
+/// Ends two scripts of three with the lines that are always bad, one after the other by the script's place, and the third with
+/// any bad line.
 pub fn end_in_turn(scribe: &mut Scribe, place: u64) {
-    if place % 4 == 3 {
+    if place % 3 == 2 {
         return end_badly(scribe);
     }
-    let turn = (place / 4 * 3 + place % 4) as usize;
+    let turn = (place / 3 * 2 + place % 3) as usize;
     end_with(scribe, ALWAYS_BAD[turn % ALWAYS_BAD.len()].to_vec());
 }
 
 /// Ends a script with this line and some after it, which must not be answered.
 fn end_with(scribe: &mut Scribe, line: Vec<u8>) {
-    scribe.coverage.stepping.note_bad(&line);
     scribe.lines.push(line);
     for line in [&b"show"[..], b"load 0 8", b"nonsense"] {
         if scribe.rng.chance(50) {
@@ -286,7 +264,7 @@ mod tests {
     #[test]
     fn in_turn_all_of_them_come() {
         let folder = Folder::new().unwrap();
-        let ends = (0..ALWAYS_BAD.len() as u64 * 4 / 3).map(|place| {
+        let ends = (0..ALWAYS_BAD.len() as u64 * 3 / 2).map(|place| {
             let mut scribe = Scribe::new(1, folder.path().to_path_buf());
             end_in_turn(&mut scribe, place);
             scribe.lines.swap_remove(0)

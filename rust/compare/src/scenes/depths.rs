@@ -28,9 +28,7 @@ pub fn all_in_turn(scribe: &mut Scribe) {
             }
         }
         if let (Some(5), Some(5)) = (world.depth(1), world.depth(2)) {
-            for spoilt in world.of_every_length(scribe, "load") {
-                world.perform_spoilt(scribe, &spoilt, 0);
-            }
+            world.every_length(scribe);
         }
     }
     for case in all() {
@@ -39,7 +37,7 @@ pub fn all_in_turn(scribe: &mut Scribe) {
 }
 
 /// A fetch, a load or a store.
-pub fn translation(scribe: &mut Scribe, event: &str, address: u64) -> Access {
+fn translation(scribe: &mut Scribe, event: &str, address: u64) -> Access {
     let kind = match event {
         "fetch" => Kind::Fetch,
         "load" => Kind::Load,
@@ -58,12 +56,12 @@ pub fn translation(scribe: &mut Scribe, event: &str, address: u64) -> Access {
 
 impl World {
     /// How many levels a stage's tables have, if it is on.
-    pub fn depth(&self, stage: u64) -> Option<u64> {
+    fn depth(&self, stage: u64) -> Option<u64> {
         self.shape(stage).map(|shape| shape.levels)
     }
 
     /// The tables of a part.
-    pub fn shape_of(&self, part: Part) -> Option<Shape> {
+    fn shape_of(&self, part: Part) -> Option<Shape> {
         match part {
             Part::Satp if self.second.is_none() => self.first,
             Part::Vsatp => self.first,
@@ -123,8 +121,7 @@ impl World {
         part != Part::HgatpForAccess || self.first.is_none()
     }
 
-    /// Whether its tables have these depths.
-    pub fn has_depths(&self, depths: Depths) -> bool {
+    fn has_depths(&self, depths: Depths) -> bool {
         match depths {
             Depths::Host(first) => self.second.is_none() && self.depth(1) == first,
             Depths::Guest(first, second) => (self.depth(1), self.depth(2)) == (first, second),
@@ -219,37 +216,34 @@ impl World {
         }
     }
 
-    /// What makes walks of five levels over five end after each number of reads: an entry of the first stage is missing, or leads to
-    /// where the second stage has no entry at one of its levels.
-    pub fn of_every_length(&self, scribe: &mut Scribe, event: &str) -> Vec<Spoilt> {
+    /// Walks of five levels over five that end after each number of reads: an entry of the first stage is missing, or leads to where
+    /// the second stage has no entry at one of its levels.
+    fn every_length(&self, scribe: &mut Scribe) {
         let hart = self.walking_hart(scribe, true);
-        let event = Walking::Translation(translation(scribe, event, self.address(DATA)));
+        let access = translation(scribe, "load", self.address(DATA));
+        let event = Walking::Translation(access);
         let Some(walked) = event.walked(scribe, &hart) else {
-            return Vec::new();
+            return;
         };
         // More than the sixteen pages of the image away.
         let away = [0, 1, 2, 3, 4].map(|level| 16 << offset_bits(level));
-        let mut spoilt = Vec::new();
-        let items = walked.list.items().iter();
-        for read in items.filter(|read| read.stage == 1) {
+        let items = walked.list.items().to_vec();
+        for read in items.iter().filter(|read| read.stage == 1) {
             let elsewhere = away.map(|distance| read.value ^ (distance >> 2));
-            let changed = elsewhere.into_iter().chain([0]);
-            spoilt.extend(changed.map(|changed| Spoilt {
-                hart,
-                event,
-                entry: Some((read.address, changed)),
-            }));
+            for changed in elsewhere.into_iter().chain([0]) {
+                let spoilt = Spoilt {
+                    hart,
+                    event,
+                    entry: Some((read.address, changed)),
+                };
+                self.perform_spoilt(scribe, &spoilt, 0);
+            }
         }
-        spoilt.extend(away.map(|distance| {
+        for distance in away {
             let mut hart = hart;
             hart.vsatp ^= distance >> 12;
-            Spoilt {
-                hart,
-                event,
-                entry: None,
-            }
-        }));
-        spoilt
+            self.translate(scribe, hart, access);
+        }
     }
 }
 

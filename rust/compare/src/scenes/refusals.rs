@@ -59,7 +59,7 @@ fn image(scribe: &mut Scribe, bad: bool) {
 }
 
 /// A hart that is refused as 2, for one reason or for several.
-pub fn illegal_hart(scribe: &mut Scribe) {
+fn illegal_hart(scribe: &mut Scribe) {
     let mode = scribe.mode();
     let mut hart = scribe.legal_hart(mode);
     loop {

@@ -10,7 +10,6 @@ use second::script::Answer;
 use second::trap::Trap;
 use second::walk::{self, translate, walk, Access, Kind, Read, Walked};
 
-use crate::coverage::kind_word;
 use crate::scenes::guest;
 use crate::scribe::Scribe;
 use crate::tables::{Mapping, Tables, A, D, G, LEAF_BITS, R, U, V, W, X};
@@ -45,33 +44,22 @@ pub fn walks(scribe: &mut Scribe) {
     }
 }
 
-/// How often each regime is used, of twelve.
-const REGIMES: [Regime; 12] = [
-    Regime::Guest,
-    Regime::Guest,
-    Regime::Guest,
-    Regime::Guest,
-    Regime::Guest,
-    Regime::Guest,
-    Regime::Host,
-    Regime::Host,
-    Regime::Host,
-    Regime::GuestPhysical,
-    Regime::GuestPhysical,
-    Regime::Bare,
-];
-
-/// A hart for any regime, and an access of it.
-pub fn any_access(scribe: &mut Scribe, tables: &Tables) -> Access {
-    let regime = scribe.rng.pick(&REGIMES);
-    let hart = hart_for(scribe, tables, regime);
-    scribe.whole_hart(&hart);
-    choose_access(scribe, tables, regime, Way::Translation)
-}
-
 /// Some accesses of one hart.
 fn group(scribe: &mut Scribe, tables: &Tables) {
-    let regime = scribe.rng.pick(&REGIMES);
+    let regime = scribe.rng.pick(&[
+        Regime::Guest,
+        Regime::Guest,
+        Regime::Guest,
+        Regime::Guest,
+        Regime::Guest,
+        Regime::Guest,
+        Regime::Host,
+        Regime::Host,
+        Regime::Host,
+        Regime::GuestPhysical,
+        Regime::GuestPhysical,
+        Regime::Bare,
+    ]);
     let mut hart = hart_for(scribe, tables, regime);
     let way = match regime {
         Regime::Host => Way::Translation,
@@ -240,7 +228,11 @@ pub fn choose_page(scribe: &mut Scribe, pages: &[Mapping], user: bool) -> u64 {
 
 /// The line of an access.
 pub fn text(access: &Access) -> String {
-    let word = kind_word(access.kind);
+    let word = match access.kind {
+        Kind::Fetch => "fetch",
+        Kind::Load => "load",
+        Kind::Store => "store",
+    };
     format!("{word} {:x} {:x}", access.address, access.width)
 }
 
@@ -460,7 +452,7 @@ fn listed(scribe: &mut Scribe, access: &Access, way: Way) -> Vec<Read> {
 }
 
 /// An entry of the list: half of the time a leaf, where most rules are.
-pub fn choose_entry(scribe: &mut Scribe, items: &[Read]) -> Read {
+fn choose_entry(scribe: &mut Scribe, items: &[Read]) -> Read {
     let leaves: Vec<Read> = items
         .iter()
         .copied()
@@ -477,12 +469,6 @@ pub fn choose_entry(scribe: &mut Scribe, items: &[Read]) -> Read {
 fn for_entry(items: &[Read], read: &Read) -> bool {
     let mut rest = items.iter().skip_while(|item| *item != read);
     read.stage == 2 && rest.any(|item| item.stage == 1)
-}
-
-/// An entry damaged in any way.
-pub fn any_damage(scribe: &mut Scribe, tables: &Tables, read: &Read) -> u64 {
-    let damage = scribe.rng.pick(&DAMAGES);
-    damaged(scribe, tables, read, damage)
 }
 
 /// The damaged entry.

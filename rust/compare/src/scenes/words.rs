@@ -85,7 +85,7 @@ pub fn text(form: &str, number: u64, value: u64) -> String {
 }
 
 /// The line of an event in any form, without its word. A hypervisor load or store has a width that is taken.
-pub fn any_form(scribe: &mut Scribe, event: &str, number: u64) -> String {
+fn any_form(scribe: &mut Scribe, event: &str, number: u64) -> String {
     let form = match event {
         "set" | "clear" => format!("{event} {}", scribe.rng.below(2)),
         "hlv" => scribe.rng.pick(&LOAD_FORMS[..8]).to_string(),

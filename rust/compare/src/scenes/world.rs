@@ -186,40 +186,6 @@ pub struct Spoilt {
     pub entry: Option<(u64, u64)>,
 }
 
-impl Spoilt {
-    /// Changes the entry, and makes the hart. Says where the entry is, and what it was.
-    pub fn prepare(&self, scribe: &mut Scribe) -> Option<(u64, u64)> {
-        let old = self.entry.and_then(|(place, entry)| {
-            let old = scribe.session.image.read(Machine(place))?;
-            scribe.put(place, entry);
-            Some((place, old))
-        });
-        scribe.whole_hart(&self.hart);
-        old
-    }
-
-    /// What the access comes to, if the hart is not refused.
-    pub fn walked(&self, scribe: &mut Scribe) -> Option<Walked> {
-        let image = &mut scribe.session.image;
-        let old = self.entry.and_then(|(place, entry)| {
-            let old = image.read(Machine(place))?;
-            image.put(Machine(place), entry);
-            Some((place, old))
-        });
-        let walked = self.event.walked(scribe, &self.hart);
-        if let Some((place, old)) = old {
-            scribe.session.image.put(Machine(place), old);
-        }
-        walked
-    }
-
-    /// The rule that it ends by.
-    pub fn ends_by(&self, scribe: &mut Scribe) -> Option<Key> {
-        let fault = self.walked(scribe)?.end.err()?;
-        Some(fault.why.key())
-    }
-}
-
 impl World {
     /// A new image with these tables.
     pub fn build(scribe: &mut Scribe, first: Option<Shape>, second: Option<Shape>) -> World {
@@ -389,7 +355,12 @@ impl World {
     /// The access with what spoils it, in so many of 100 cases with the hart after it. The entry is put back, and what a hypervisor store
     /// left is loaded.
     pub fn perform_spoilt(&self, scribe: &mut Scribe, spoilt: &Spoilt, shown: u64) {
-        let old = spoilt.prepare(scribe);
+        let old = spoilt.entry.and_then(|(place, entry)| {
+            let old = scribe.session.image.read(Machine(place))?;
+            scribe.put(place, entry);
+            Some((place, old))
+        });
+        scribe.whole_hart(&spoilt.hart);
         scribe.event(&spoilt.event.text());
         scribe.show_sometimes(shown);
         if let Some((place, old)) = old {
@@ -446,7 +417,7 @@ impl World {
             event,
             entry: changed,
         };
-        (spoilt.ends_by(scribe) == Some(key)).then_some(spoilt)
+        (ends_by(scribe, &spoilt) == Some(key)).then_some(spoilt)
     }
 
     /// The level of the root of a part's tables.
@@ -510,6 +481,21 @@ fn stage_of(part: Part) -> u64 {
         Part::Satp | Part::Vsatp => 1,
         _ => 2,
     }
+}
+
+/// The rule that a spoilt access ends by.
+fn ends_by(scribe: &mut Scribe, spoilt: &Spoilt) -> Option<Key> {
+    let image = &mut scribe.session.image;
+    let old = spoilt.entry.and_then(|(place, entry)| {
+        let old = image.read(Machine(place))?;
+        image.put(Machine(place), entry);
+        Some((place, old))
+    });
+    let walked = spoilt.event.walked(scribe, &spoilt.hart);
+    if let Some((place, old)) = old {
+        scribe.session.image.put(Machine(place), old);
+    }
+    walked?.end.err().map(|fault| fault.why.key())
 }
 
 /// A hart with vsstatus.MXR and mstatus.MXR so.
