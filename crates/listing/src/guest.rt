@@ -15,7 +15,7 @@ const LIST_AT: usize = layout::ACCESS + 1;
 pub const PERFORMED: usize = LIST_AT + 4 * PLACES;
 
 // The places of a list, four words each, from an index on.
-pub fn put_reads(reads: [Read; PLACES], from: usize, out: &mut [u64])
+fn put_reads(reads: [Read; PLACES], from: usize, out: &mut [u64])
     requires { from + 4 * places ≤ length out.old }
     ensures { (out.new ≡ sets out.old from (read_words reads)) × (length reads ≡ places) }
 {

@@ -20,7 +20,7 @@ const LIST_AT: usize = 7;
 pub const TRANSLATION: usize = LIST_AT + 4 * PLACES;
 
 // The kind of access with a number.
-pub fn kind_of(n: u64) -> Kind
+fn kind_of(n: u64) -> Kind
     ensures { result ≡ kind_of n }
 {
     if n == 0 {

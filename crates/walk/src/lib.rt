@@ -33,7 +33,7 @@ pub fn none() -> [Read; PLACES]
 }
 
 // The list that words hold.
-pub fn pack(words: &[u64]) -> [Read; PLACES]
+fn pack(words: &[u64]) -> [Read; PLACES]
     requires { length words.now ≡ 4 * places }
     ensures { result ≡ unpack words.now }
 {

@@ -32,7 +32,9 @@ pub walk_into-w-requires : goal.walk_into-w-requires
 walk_into-w-requires c = (c.requires.0, c.requires.1, omega (arith, c.requires.2, c.requires.3))
 
 pub clear-requires : goal.clear-requires
-clear-requires c = (omega (arith, (left (goal.at.clear-requires c).After-walk_into-w).next, fits (goal.at.clear-requires c).After-walk_into-w), omega (arith, (left (goal.at.clear-requires c).After-walk_into-w).size, c.requires.3))
+clear-requires c =
+    let w = (goal.at.clear-requires c).After-walk_into-w in
+    (omega (arith, (left w).next, fits w), omega (arith, (left w).size, c.requires.3))
 
 pub overflow_sub-result : goal.overflow_sub-result
 overflow_sub-result c = omega (arith, (left (goal.at.overflow_sub-result c).After-walk_into-w).next)

@@ -80,25 +80,38 @@ pub overflow_add-next : goal.overflow_add-next
 overflow_add-next c = omega (arith, has_room (reached (goal.at.overflow_add-next c).In-At) (on (goal.at.overflow_add-next c).In-Entry), (arrival (goal.at.overflow_add-next c).After-walk-s).size)
 
 pub returns-in-Bad : goal.returns-in-Bad
-returns-in-Bad c = rw c.page_fault-in-Bad.ensures (bad (reached (goal.at.returns-in-Bad c).In-At) (on (goal.at.returns-in-Bad c).In-Entry) (tested (goal.at.returns-in-Bad c).In-Entry) (sees (goal.at.returns-in-Bad c).In-Entry) c.in-Bad.is)
+returns-in-Bad c =
+    let k = (goal.at.returns-in-Bad c).In-Entry in
+    let m = (goal.at.returns-in-Bad c).In-At in
+    rw c.page_fault-in-Bad.ensures (bad (reached m) (on k) (tested k) (sees k) c.in-Bad.is)
 
 pub loop-m-smaller-in-Leaf : goal.loop-m-smaller-in-Leaf
 loop-m-smaller-in-Leaf c = on (goal.at.loop-m-smaller-in-Leaf c).In-Entry
 
 pub loop-m-preserved-in-Leaf : goal.loop-m-preserved-in-Leaf
-loop-m-preserved-in-Leaf c = leaf (reached (goal.at.loop-m-preserved-in-Leaf c).In-At) (on (goal.at.loop-m-preserved-in-Leaf c).In-Entry) (tested (goal.at.loop-m-preserved-in-Leaf c).In-Entry) (sees (goal.at.loop-m-preserved-in-Leaf c).In-Entry) c.in-Leaf.is
+loop-m-preserved-in-Leaf c =
+    let k = (goal.at.loop-m-preserved-in-Leaf c).In-Entry in
+    let m = (goal.at.loop-m-preserved-in-Leaf c).In-At in
+    leaf (reached m) (on k) (tested k) (sees k) c.in-Leaf.is
 
 pub overflow_sub-left-in-Pointer : goal.overflow_sub-left-in-Pointer
-overflow_sub-left-in-Pointer c = omega (arith, (bounds (sees (goal.at.overflow_sub-left-in-Pointer c).In-Entry) _ (tested (goal.at.overflow_sub-left-in-Pointer c).In-Entry) c.in-Pointer.is).0)
+overflow_sub-left-in-Pointer c =
+    let k = (goal.at.overflow_sub-left-in-Pointer c).In-Entry in
+    omega (arith, (bounds (sees k) _ (tested k) c.in-Pointer.is).0)
 
 pub index-requires : goal.index-requires
 index-requires c = omega (arith, c.loop-m.invariant.depth, c.requires.1.first)
 
 pub overflow_add-guest : goal.overflow_add-guest
-overflow_add-guest c = omega (arith, (bounds (sees (goal.at.overflow_add-guest c).In-Entry) _ (tested (goal.at.overflow_add-guest c).In-Entry) c.in-Pointer.is).1, c.index.ensures.1)
+overflow_add-guest c =
+    let k = (goal.at.overflow_add-guest c).In-Entry in
+    omega (arith, (bounds (sees k) _ (tested k) c.in-Pointer.is).1, c.index.ensures.1)
 
 pub loop-m-smaller : goal.loop-m-smaller
 loop-m-smaller c = omega (arith, on (goal.at.loop-m-smaller c).In-Entry)
 
 pub loop-m-preserved : goal.loop-m-preserved
-loop-m-preserved c = further (reached (goal.at.loop-m-preserved c).In-At) (on (goal.at.loop-m-preserved c).In-Entry) (tested (goal.at.loop-m-preserved c).In-Entry) (sees (goal.at.loop-m-preserved c).In-Entry) c.in-Pointer.is c.index.ensures.0
+loop-m-preserved c =
+    let k = (goal.at.loop-m-preserved c).In-Entry in
+    let m = (goal.at.loop-m-preserved c).In-At in
+    further (reached m) (on k) (tested k) (sees k) c.in-Pointer.is c.index.ensures.0

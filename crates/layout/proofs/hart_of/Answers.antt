@@ -22,9 +22,6 @@ loop-i-preserved c =
       copied l.regs c.args.ws.now _ (l.i + 3) l.i (l.i + 1 + 3) (l.i + 1) (omega arith) (omega arith) (omega arith) l.invariant.2,
     )
 
-pub on-requires : goal.on-requires
-on-requires c = tt
-
 pub returns : goal.returns
 returns c =
     let l = c.loop-i in

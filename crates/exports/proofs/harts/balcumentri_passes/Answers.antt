@@ -15,15 +15,6 @@ pub returns-then-out-ne1 : goal.returns-then-out-ne1
 unfolding put
 returns-then-out-ne1 c = rw (out_wrong _ _ 1 c.if-h-ne-HART.false c.if-out-ne1.true)
 
-pub hart_of-requires : goal.hart_of-requires
-hart_of-requires c = tt
-
-pub passes-requires : goal.passes-requires
-passes-requires c = tt
-
-pub select-requires : goal.select-requires
-select-requires c = tt
-
 pub shape_of-out : goal.shape_of-out
 shape_of-out c = simp length-set
 

@@ -5,18 +5,13 @@ use Rattle.hart.proofs.control.Control.access.Goals as goal
 
 pub returns-in_default : goal.returns-in_default
 unfolding access
-returns-in_default c =
-    let l = c in
-    rw (sym l.lookup-found.ensures ∙ c.in_default.is) (rw l.refusal-own.ensures at c.unlisted.ensures)
+returns-in_default c = rw (sym c.lookup-found.ensures ∙ c.in_default.is) (rw c.refusal-own.ensures at c.unlisted.ensures)
 
 pub access_row-requires : goal.access_row-requires
 access_row-requires c =
-    let start = c in
     let l = lookup-found _ _ _ (sym c.lookup-found.ensures ∙ c.in-At.is) in
-    (l.below, l.row, start.requires.0, start.requires.1)
+    (l.below, l.row, c.requires.0, c.requires.1)
 
 pub returns : goal.returns
 unfolding access
-returns c =
-    let l = c in
-    rw (sym l.lookup-found.ensures ∙ c.in-At.is) (rw l.refusal-own.ensures at c.access_row.ensures)
+returns c = rw (sym c.lookup-found.ensures ∙ c.in-At.is) (rw c.refusal-own.ensures at c.access_row.ensures)

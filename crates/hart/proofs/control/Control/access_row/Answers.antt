@@ -10,25 +10,20 @@ use Rattle.hart.proofs.control.Control.access_row.Goals as goal
 
 pub goes-requires : goal.goes-requires
 goes-requires c =
-    let start = c in
-    let a = start.args in
-    rw c.reach-to.ensures (reaches-home a.place (eqb a.self.v 1), reaches-shift a.place (eqb a.self.v 1), start.requires.2)
+    let a = c.args in
+    rw c.reach-to.ensures (reaches-home a.place (eqb a.self.v 1), reaches-shift a.place (eqb a.self.v 1), c.requires.2)
 
 pub returns-in-Goes : goal.returns-in-Goes
 unfolding access_row
 returns-in-Goes c =
-    let s = c in
-    let start = s in
-    let a = start.args in
-    let m : a.row.mask ≡ (reached (eqb a.self.v 1) (at a.place)).writes = ap (λ (r : Row). r.mask) start.requires.1 ∙ sym (reaches-writes a.place (eqb a.self.v 1)) in
+    let a = c.args in
+    let m : a.row.mask ≡ (reached (eqb a.self.v 1) (at a.place)).writes = ap (λ (r : Row). r.mask) c.requires.1 ∙ sym (reaches-writes a.place (eqb a.self.v 1)) in
     rw (c.reach-to.ensures, m) at c.goes.ensures
-    ∙ goes-answer _ _ _ _ _ _ (rw (s.verdict-verdict.ensures, s.context.ensures) at (s.stops-stop.ensures (on a.self a.regs.now) start.requires.3)) c.in-Goes.is
+    ∙ goes-answer _ _ _ _ _ _ (rw (c.verdict-verdict.ensures, c.context.ensures) at (c.stops-stop.ensures (on a.self a.regs.now) c.requires.3)) c.in-Goes.is
 
 pub returns-in-Halts : goal.returns-in-Halts
 unfolding access_row
 returns-in-Halts c =
-    let s = c in
-    let start = s in
-    let a = start.args in
+    let a = c.args in
     c.answer_halt.ensures
-    ∙ halts_answer _ _ _ _ _ _ (rw (s.verdict-verdict.ensures, s.context.ensures) at (s.stops-stop.ensures (on a.self a.regs.now) start.requires.3)) c.in-Halts.is
+    ∙ halts_answer _ _ _ _ _ _ (rw (c.verdict-verdict.ensures, c.context.ensures) at (c.stops-stop.ensures (on a.self a.regs.now) c.requires.3)) c.in-Halts.is

@@ -5,14 +5,10 @@ use Rattle.hart.proofs.control.Control.unlisted.Goals as goal
 
 pub returns-in-Goes : goal.returns-in-Goes
 returns-in-Goes c =
-    let start = c in
-    let a = start.args in
-    goes-answer _ _ _ _ _ _ (c.stops-stop.ensures (on a.self a.regs.now) start.requires.1) c.in-Goes.is
+    let a = c.args in
+    goes-answer _ _ _ _ _ _ (c.stops-stop.ensures (on a.self a.regs.now) c.requires.1) c.in-Goes.is
 
 pub returns-in-Halts : goal.returns-in-Halts
 returns-in-Halts c =
-    let s = c in
-    let start = s in
-    let a = start.args in
-    c.answer_halt.ensures
-    ∙ halts_answer _ _ _ _ _ _ (s.stops-stop.ensures (on a.self a.regs.now) start.requires.1) c.in-Halts.is
+    let a = c.args in
+    c.answer_halt.ensures ∙ halts_answer _ _ _ _ _ _ (c.stops-stop.ensures (on a.self a.regs.now) c.requires.1) c.in-Halts.is

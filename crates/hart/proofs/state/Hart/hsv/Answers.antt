@@ -13,8 +13,7 @@ returns-then-not-is_done c =
 pub store-requires : goal.store-requires
 store-requires c =
     let r = c.reach-r.ensures in
-    let test = sym c.is_done.ensures ∙ c.if-not-is_done.false in
-    rw r (done-inside _ _ _ _ _ _ _ (rw r at test)).1
+    rw r (done-inside _ _ _ _ _ _ _ (rw r at (sym c.is_done.ensures ∙ c.if-not-is_done.false))).1
 
 pub returns : goal.returns
 unfolding hsv
