@@ -7,7 +7,7 @@ ghost use Rattle.bits.specs.Field.{pick};
 ghost use Rattle.registers.specs.Views.{shown, stored_by};
 ghost use Rattle.table.specs.Table.{view_of};
 
-use privilege::{Context, Verdict};
+use privilege::{Context, Mode, Verdict};
 use registers::fields::{TVM, VTVM};
 use registers::rules;
 use table::Row;
@@ -35,12 +35,12 @@ pub fn verdict(c: Context, row: Row, writes: bool) -> Verdict
     let satp = row.number == 0x180;
     let tvm = (TVM.get(c.mstatus) == 1) & (satp | (row.number == 0x680));
     let vtvm = (VTVM.get(c.hstatus) == 1) & satp;
-    let host = c.is_u() | (c.is_hs() & ((row.level == table::MACHINE) | tvm));
+    let host = c.is(Mode::U) | (c.is(Mode::HS) & ((row.level == table::MACHINE) | tvm));
     let guest = (c.v == 1) & (row.level == table::MACHINE);
-    let vs = c.is_vs() & (vtvm | (row.level == table::HYPERVISOR));
+    let vs = c.is(Mode::VS) & (vtvm | (row.level == table::HYPERVISOR));
     Verdict {
         gives2: (writes & row.read_only) | (host | guest),
-        gives22: vs | c.is_vu(),
+        gives22: vs | c.is(Mode::VU),
     }
 }
 

@@ -5,7 +5,7 @@ ghost use Rattle.std.specs.Prelude.{◌≡◌};
 ghost use Rattle.delivery.specs.Delivery.{target, handler, call_cause, breakpoint};
 
 use exceptions::Exception;
-use privilege::Context;
+use privilege::{Context, Mode};
 
 #[derive(Clone, Copy)]
 pub enum Target {
@@ -18,7 +18,7 @@ pub enum Target {
 pub fn delivers_to(c: Context, medeleg: u64, hedeleg: u64, cause: u64) -> Target
     ensures { result ≡ target c medeleg hedeleg cause }
 {
-    if c.is_m() | !bits::has(cause, medeleg) {
+    if c.is(Mode::M) | !bits::has(cause, medeleg) {
         return Target::M;
     }
     if (c.v == 1) & bits::has(cause, hedeleg) {
@@ -42,8 +42,8 @@ pub fn handler(tvec: u64, cause: u64) -> u64
 pub fn call_cause(c: Context) -> u64
     ensures { result ≡ call_cause c }
 {
-    let other = bits::select(c.is_hs(), 9, 8);
-    bits::select(c.is_m(), 11, bits::select(c.is_vs(), 10, other))
+    let other = bits::select(c.is(Mode::HS), 9, 8);
+    bits::select(c.is(Mode::M), 11, bits::select(c.is(Mode::VS), 10, other))
 }
 
 // A breakpoint at pc.

@@ -5,7 +5,7 @@ ghost use Rattle.std.specs.Prelude.{◌≡◌, ◌<◌};
 ghost use Rattle.effective.specs.Effective.{effective, guest_mode, depth, root, off, first_root, second_root, in_mode, plain_access, guest_access};
 
 use access::{Access, Root};
-use privilege::Context;
+use privilege::{Context, Mode};
 use registers::fields;
 use rules::{Kind, Right};
 
@@ -30,7 +30,7 @@ fn effective_mode(c: Context, kind: Kind) -> EffectiveMode
 {
     let status = c.mstatus;
     let data = kind.test(false, true, true);
-    if c.is_m() & (fields::MPRV.get(status) == 1) & data {
+    if c.is(Mode::M) & (fields::MPRV.get(status) == 1) & data {
         let mpp = fields::MPP.get(status);
         return EffectiveMode {
             v: !(mpp == 3) & (fields::MPV.get(status) == 1),

@@ -6,7 +6,7 @@ ghost use Rattle.bits.specs.Field.{Fits};
 ghost use Rattle.instructions.specs.Instructions.{illegal_with, virtual_with, mret, sret, wfi, sfence_vma, hfence_vvma, hfence_gvma, hypervisor_access};
 
 use bits::Field;
-use privilege::{Context, Verdict};
+use privilege::{Context, Mode, Verdict};
 use registers::fields::{HU, TSR, TVM, TW, VTSR, VTVM, VTW};
 
 // U, and HS with a control of mstatus set.
@@ -14,7 +14,7 @@ fn illegal_with(control: Field, c: Context) -> bool
     requires { Fits control }
     ensures { result ≡ illegal_with control c }
 {
-    c.is_u() | (c.is_hs() & (control.get(c.mstatus) == 1))
+    c.is(Mode::U) | (c.is(Mode::HS) & (control.get(c.mstatus) == 1))
 }
 
 // VU, and VS with a control of hstatus set.
@@ -22,14 +22,14 @@ fn virtual_with(control: Field, c: Context) -> bool
     requires { Fits control }
     ensures { result ≡ virtual_with control c }
 {
-    c.is_vu() | (c.is_vs() & (control.get(c.hstatus) == 1))
+    c.is(Mode::VU) | (c.is(Mode::VS) & (control.get(c.hstatus) == 1))
 }
 
 pub fn mret(c: Context) -> Verdict
     ensures { result ≡ mret c }
 {
     Verdict {
-        gives2: !c.is_m(),
+        gives2: !c.is(Mode::M),
         gives22: false,
     }
 }
@@ -47,7 +47,7 @@ pub fn wfi(c: Context) -> Verdict
     ensures { result ≡ wfi c }
 {
     Verdict {
-        gives2: !c.is_m() & ((TW.get(c.mstatus) == 1) | c.is_u()),
+        gives2: !c.is(Mode::M) & ((TW.get(c.mstatus) == 1) | c.is(Mode::U)),
         gives22: virtual_with(VTW, c),
     }
 }
@@ -65,7 +65,7 @@ pub fn hfence_vvma(c: Context) -> Verdict
     ensures { result ≡ hfence_vvma c }
 {
     Verdict {
-        gives2: c.is_u(),
+        gives2: c.is(Mode::U),
         gives22: c.v == 1,
     }
 }
@@ -84,7 +84,7 @@ pub fn hfence_gvma(c: Context) -> Verdict
 pub fn hypervisor_access(c: Context) -> Verdict
     ensures { result ≡ hypervisor_access c }
 {
-    let denied = c.is_u() & !(HU.get(c.hstatus) == 1);
+    let denied = c.is(Mode::U) & !(HU.get(c.hstatus) == 1);
     let virtual_mode = c.v == 1;
     Verdict {
         gives2: denied,

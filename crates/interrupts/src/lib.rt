@@ -7,7 +7,7 @@ ghost use Rattle.interrupts.specs.Interrupts.{admits, levels, order, first_of, o
 
 use delivery::Target;
 use exceptions::Exception;
-use privilege::Context;
+use privilege::{Context, Mode};
 use registers::fields::{MIE, SIE};
 
 // What an interrupt's being due depends on beside the mode and mstatus.
@@ -32,11 +32,12 @@ fn admits(c: Context, vsstatus: u64, to: Target) -> bool
     ensures { result ≡ admits c vsstatus to }
 {
     match to {
-        Target::M => !c.is_m() | (MIE.get(c.mstatus) == 1),
+        Target::M => !c.is(Mode::M) | (MIE.get(c.mstatus) == 1),
         Target::HS => {
-            c.is_u() | (c.is_vu() | (c.is_vs() | (c.is_hs() & (SIE.get(c.mstatus) == 1))))
+            c.is(Mode::U)
+                | (c.is(Mode::VU) | (c.is(Mode::VS) | (c.is(Mode::HS) & (SIE.get(c.mstatus) == 1))))
         }
-        Target::VS => c.is_vu() | (c.is_vs() & (SIE.get(vsstatus) == 1)),
+        Target::VS => c.is(Mode::VU) | (c.is(Mode::VS) & (SIE.get(vsstatus) == 1)),
     }
 }
 

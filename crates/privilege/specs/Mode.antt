@@ -4,6 +4,8 @@ use Rattle.bits.specs.declared.Field.{Field}
 use Rattle.bits.specs.Field.{get}
 use Rattle.registers.specs.Fields.{MPRV}
 use Rattle.privilege.specs.declared.Context.{Context}
+use Rattle.privilege.specs.declared.Mode.{Mode}
+use Rattle.privilege.specs.declared.Mode.TheVariants.{U, HS, M, VU, VS}
 use Rattle.privilege.specs.declared.Verdict.{Verdict}
 
 abbrev pub is_u : Context → Bool
@@ -20,6 +22,14 @@ is_vu c = eqb c.v 1 && eqb c.privilege 0
 
 abbrev pub is_vs : Context → Bool
 is_vs c = eqb c.v 1 && eqb c.privilege 1
+
+-- whether it is in a mode
+abbrev pub is : Mode → Context → Bool
+is U = is_u
+is HS = is_hs
+is M = is_m
+is VU = is_vu
+is VS = is_vs
 
 -- a field of one bit is 1
 abbrev pub is_set : Field → ℕ → Bool

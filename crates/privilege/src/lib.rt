@@ -2,9 +2,19 @@
 #![tactic(auto)]
 
 ghost use Rattle.std.specs.Prelude.{◌≡◌};
-ghost use Rattle.privilege.specs.Mode.{is_u, is_hs, is_m, is_vu, is_vs, among_five, stray_mprv, checked};
+ghost use Rattle.privilege.specs.Mode.{is, among_five, stray_mprv, checked};
 
 use registers::fields::MPRV;
+
+// The five modes, M with V=0.
+#[derive(Clone, Copy)]
+pub enum Mode {
+    U,
+    HS,
+    M,
+    VU,
+    VS,
+}
 
 // V, the privilege (0 U, 1 S, 3 M), and the two status words with the controls.
 #[derive(Clone, Copy)]
@@ -23,48 +33,32 @@ pub struct Verdict {
 }
 
 impl Context {
-    pub fn is_u(self) -> bool
-        ensures { result ≡ is_u self }
+    // Whether this is the mode that it is in.
+    pub fn is(self, mode: Mode) -> bool
+        ensures { result ≡ is mode self }
     {
-        (self.v == 0) & (self.privilege == 0)
-    }
-
-    pub fn is_hs(self) -> bool
-        ensures { result ≡ is_hs self }
-    {
-        (self.v == 0) & (self.privilege == 1)
-    }
-
-    pub fn is_m(self) -> bool
-        ensures { result ≡ is_m self }
-    {
-        (self.v == 0) & (self.privilege == 3)
-    }
-
-    pub fn is_vu(self) -> bool
-        ensures { result ≡ is_vu self }
-    {
-        (self.v == 1) & (self.privilege == 0)
-    }
-
-    pub fn is_vs(self) -> bool
-        ensures { result ≡ is_vs self }
-    {
-        (self.v == 1) & (self.privilege == 1)
+        let (v, privilege) = match mode {
+            Mode::U => (0, 0),
+            Mode::HS => (0, 1),
+            Mode::M => (0, 3),
+            Mode::VU => (1, 0),
+            Mode::VS => (1, 1),
+        };
+        (self.v == v) & (self.privilege == privilege)
     }
 
     // The mode is one of the five: U, HS, VU and VS, or M.
     pub fn is_among_five(self) -> bool
         ensures { result ≡ among_five self }
     {
-        ((self.v < 2) & (self.privilege < 2)) | self.is_m()
+        ((self.v < 2) & (self.privilege < 2)) | self.is(Mode::M)
     }
 
     // MPRV=1 outside M.
     pub fn has_stray_mprv(self) -> bool
         ensures { result ≡ stray_mprv self }
     {
-        (MPRV.get(self.mstatus) == 1) & !self.is_m()
+        (MPRV.get(self.mstatus) == 1) & !self.is(Mode::M)
     }
 
     // Check 2, of a hart whose registers pass or not, at pc.

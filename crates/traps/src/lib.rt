@@ -5,7 +5,7 @@ ghost use Rattle.std.specs.Prelude.{◌≡◌};
 ghost use Rattle.traps.specs.Request.{is_call, is_guest_page, unknown, wrong_mode, wrong_value, never_flagged, wrong_flag, impossible};
 
 use exceptions::Exception;
-use privilege::Context;
+use privilege::{Context, Mode};
 
 fn is_call(cause: u64) -> bool
     ensures { result ≡ is_call cause }
@@ -28,10 +28,10 @@ fn unknown(cause: u64) -> bool
 fn wrong_mode(c: Context, cause: u64) -> bool
     ensures { result ≡ wrong_mode c cause }
 {
-    let user = (cause == 8) & !(c.is_u() | c.is_vu());
-    let hs = (cause == 9) & !c.is_hs();
-    let vs = (cause == 10) & !c.is_vs();
-    let m = (cause == 11) & !c.is_m();
+    let user = (cause == 8) & !(c.is(Mode::U) | c.is(Mode::VU));
+    let hs = (cause == 9) & !c.is(Mode::HS);
+    let vs = (cause == 10) & !c.is(Mode::VS);
+    let m = (cause == 11) & !c.is(Mode::M);
     user | (hs | (vs | (m | ((cause == 22) & (c.v == 0)))))
 }
 

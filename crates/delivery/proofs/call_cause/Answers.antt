@@ -5,8 +5,8 @@ returns c =
     rw (
       c.select-2.ensures,
       c.select.ensures,
-      c.is_vs.ensures,
-      c.is_m.ensures,
+      c.is-3.ensures,
+      c.is-2.ensures,
       c.select-other.ensures,
-      c.is_hs.ensures,
+      c.is.ensures,
     )

@@ -1,4 +1,4 @@
 use Rattle.instructions.proofs.hfence_vvma.Goals as goal
 
 pub returns : goal.returns
-returns c = rw c.is_u.ensures
+returns c = rw c.is.ensures

@@ -1,4 +1,4 @@
 use Rattle.instructions.proofs.mret.Goals as goal
 
 pub returns : goal.returns
-returns c = rw c.is_m.ensures
+returns c = rw c.is.ensures

@@ -1,4 +1,4 @@
 use Rattle.privilege.proofs.Context.has_stray_mprv.Goals as goal
 
 pub returns : goal.returns
-returns c = rw (c.is_m.ensures, c.get.ensures)
+returns c = rw (c.is.ensures, c.get.ensures)
