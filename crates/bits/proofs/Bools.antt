@@ -6,6 +6,7 @@ use Prim.Native.Nat.{ℕ}
 use native.Mathlib.Omega.{arith}
 use lib.Dec.{eqb}
 use borrow.Author.Tests.{eqb-true, eq-eqb}
+use Rattle.std.specs.Int.{from_bool}
 use Rattle.bits.specs.Field.{pick}
 
 pub and_left : (a b : Bool) → (a && b) ≡ true → a ≡ true
@@ -85,3 +86,8 @@ both_ways false false f g = refl
 
 pub same_test : (a b c d : ℕ) → (a ≡ b → c ≡ d) → (c ≡ d → a ≡ b) → eqb a b ≡ eqb c d
 same_test a b c d f g = both_ways (eqb a b) (eqb c d) (λ t. eq-eqb c d (f (eqb-true a b t))) (λ t. eq-eqb a b (g (eqb-true c d t)))
+
+-- a test as a number
+pub number_of : (b : Bool) → from_bool b ≡ pick b 1 0
+number_of true = refl
+number_of false = refl

@@ -12,7 +12,7 @@ use registers::fields::{GVA, HGVA, MIE, MPIE, MPP, MPRV, MPV, SIE, SPIE, SPP, SP
 pub fn enter_m(v: u64, privilege: u64, flag: bool, s: u64) -> u64
     ensures { result ≡ s after into_m v privilege flag s }
 {
-    let gva = bits::select(flag, 1, 0);
+    let gva = u64::from(flag);
     MPV.put(
         v,
         MPP.put(privilege, MPIE.put(MIE.get(s), MIE.put(0, GVA.put(gva, s)))),
@@ -31,7 +31,7 @@ pub fn enter_h(v: u64, privilege: u64, flag: bool, s: u64) -> u64
     ensures { result ≡ s after into_h v privilege flag s }
 {
     let spvp = bits::select(v == 1, privilege, SPVP.get(s));
-    let gva = bits::select(flag, 1, 0);
+    let gva = u64::from(flag);
     SPV.put(v, SPVP.put(spvp, HGVA.put(gva, s)))
 }
 

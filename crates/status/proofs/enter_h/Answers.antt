@@ -1,3 +1,4 @@
+use Rattle.bits.proofs.Bools.{number_of}
 use Rattle.status.proofs.enter_h.Goals as goal
 
 pub returns : goal.returns
@@ -6,7 +7,8 @@ returns c =
       c.put-3.ensures,
       c.put-2.ensures,
       c.put.ensures,
-      c.select-gva.ensures,
+      c.from-gva.ensures,
+      number_of c.args.flag,
       c.select-spvp.ensures,
       c.get.ensures,
     )

@@ -1,3 +1,4 @@
+use Rattle.bits.proofs.Bools.{number_of}
 use Rattle.status.proofs.enter_m.Goals as goal
 
 pub returns : goal.returns
@@ -9,5 +10,6 @@ returns c =
       c.put-2.ensures,
       c.put.ensures,
       c.get.ensures,
-      c.select-gva.ensures,
+      c.from-gva.ensures,
+      number_of c.args.flag,
     )
