@@ -1,16 +1,14 @@
 -- A start and a press (2026-07): what each makes of any hart, place and image.
-use Rattle.std.specs.Prelude.{Bool, false, ◌||◌, not, List, [], ◌∷◌, ℕ, zero, suc, ◌+◌, eqb, ltb, length, set}
+use Rattle.std.specs.Prelude.{Bool, false, ◌||◌, not, List, [], ◌∷◌, ℕ, zero, suc, ◌+◌, eqb, ltb, length, set, Option, Some, None, Err}
 use Rattle.hart.specs.declared.state.Hart.{Hart}
 use Rattle.hart.specs.Hart.{context, paging}
-use Rattle.image.specs.declared.Entry.{Entry}
-use Rattle.image.specs.declared.Entry.TheVariants.{Value, Outside}
 use Rattle.image.specs.Image.{unfit}
 use Rattle.rules.specs.declared.Kind.{Kind}
 use Rattle.access.specs.declared.Access.{Access}
 use Rattle.access.specs.Faults.{access_fault}
 use Rattle.stages.specs.declared.Read.{Read}
 use Rattle.stages.specs.Tree.{item}
-use Rattle.stages.specs.Stages.{faults, look}
+use Rattle.stages.specs.Stages.{look}
 use Rattle.stages.specs.Listed.{places, unused}
 use Rattle.effective.specs.Effective.{plain_access}
 use Rattle.translate.specs.declared.Start.{Start}
@@ -94,11 +92,11 @@ moved p s reads count =
     }
 
 -- The one entry, by what the image has there: "read, eight bytes, and listed" behind the others, and shown; outside the image it ends the walk.
-unfoldable pub turned : Place → Position → Entry → Pressed
-turned p q Outside =
-    let s = ended p.base p.length (access_at p) (faults (access_fault (access_at p))) in
+unfoldable pub turned : Place → Position → Option ℕ → Pressed
+turned p q None =
+    let s = ended p.base p.length (access_at p) (Err (access_fault (access_at p))) in
     record { place = moved p s p.reads p.count; shown = Nothing; told = tells s }
-turned p q (Value e) =
+turned p q (Some e) =
     let x = item q.stage (level_at q) q.at e in
     let s = after p.base p.length (access_at p) q e in
     record { place = moved p s (set p.reads p.count x) (p.count + 1); shown = Item x; told = tells s }

@@ -1,4 +1,5 @@
 -- What an access that was not refused has, and what the code finds before the walk. Assumes nothing.
+use Rattle.std.specs.Prelude.{Result, Ok, Err}
 use mathlib.Core.Path.{◌≡◌, refl, sym, subst}
 use mathlib.Core.Bool.{Bool, true, false, ◌||◌, not}
 use mathlib.Core.List.{List, [], ◌∷◌}
@@ -7,6 +8,7 @@ use native.Mathlib.Omega.{arith}
 use lib.Dec.{eqb}
 use lib.ListN.{length}
 use borrow.Author.Tests.{eqb-true, not-false}
+use Rattle.exceptions.specs.declared.Exception.{Exception}
 use Rattle.bits.specs.Field.{pick}
 use Rattle.bits.proofs.Bools.{clash, or-true, or-false, or_left, or_right}
 use Rattle.hart.specs.declared.state.Hart.{Hart}
@@ -22,9 +24,8 @@ use Rattle.access.specs.Widths.{known, misaligned}
 use Rattle.access.specs.Faults.{misalignment}
 use Rattle.access.proofs.Widths.{Aligned, a_power}
 use Rattle.stages.specs.Tree.{run}
-use Rattle.stages.specs.Stages.{Result, yields, faults, look, walk_of}
+use Rattle.stages.specs.Stages.{look, walk_of}
 use Rattle.second_stage.specs.Place.{Tables}
-use Rattle.second_stage.specs.Words.{reached, result_of}
 use Rattle.effective.specs.Effective.{effective}
 use Rattle.effective.proofs.Roots.{first_five, second_five}
 use Rattle.translate.specs.declared.Answer.{Answer}
@@ -75,9 +76,9 @@ tables-of h kind address width =
     record { first = f.levels; second = s.levels; first_root = f.ppn; second_root = s.ppn }
 
 -- a walk's result gives the same answer as the code has it
-pub same_answer : (o : Result Machine) → answer (result_of (reached o)) ≡ answer o
-same_answer (yields m) = refl
-same_answer (faults f) = refl
+pub same_answer : (o : Result Machine Exception) → answer (result_of (reached o)) ≡ answer o
+same_answer (Ok m) = refl
+same_answer (Err f) = refl
 
 -- ---- what the code finds before the walk
 

@@ -1,4 +1,5 @@
 -- What a translation comes to: at once a refusal or a misalignment, else the walk. Assumes nothing.
+use Rattle.std.specs.Prelude.{Result, Ok, Err}
 use mathlib.Core.Path.{◌≡◌, ap}
 use mathlib.Core.Bool.{true, not}
 use mathlib.Core.List.{List}
@@ -17,7 +18,7 @@ use Rattle.access.specs.Widths.{misaligned}
 use Rattle.access.specs.Faults.{misalignment}
 use Rattle.access.proofs.Widths.{Aligned}
 use Rattle.stages.specs.Tree.{Ran, run}
-use Rattle.stages.specs.Stages.{Result, yields, faults, look, walk_of}
+use Rattle.stages.specs.Stages.{look, walk_of}
 use Rattle.translate.specs.declared.Answer.{Answer}
 use Rattle.translate.specs.declared.Start.{Start}
 use Rattle.translate.specs.declared.Start.TheVariants.{Answered, Walks}
@@ -26,13 +27,13 @@ use Rattle.translate.specs.Translated.{unsupported, unless_refused, access_of, s
 use Rattle.translate.proofs.Accesses.{aligned}
 
 -- a fault answered is the walk's
-pub fault-ended : (o : Result Machine) (f : Exception) → answer o ≡ Answer.Fault f → o ≡ faults f
-fault-ended (yields m) f e = clash (cc)
-fault-ended (faults x) f e = let q : x ≡ f = cc in ap faults q
+pub fault-ended : (o : Result Machine Exception) (f : Exception) → answer o ≡ Answer.Fault f → o ≡ Err f
+fault-ended (Ok m) f e = clash (cc)
+fault-ended (Err x) f e = let q : x ≡ f = cc in ap Err q
 
 module _ (h : Hart) (base : ℕ) (bytes : List ℕ) (kind : Kind) (address width : ℕ) where
   -- the walk over the image
-  abbrev pub ran_of : Ran (Result Machine)
+  abbrev pub ran_of : Ran (Result Machine Exception)
   ran_of = run (look base bytes) (walk_of base (length bytes) (access_of h kind address width))
 
   -- the answers that no walk gives

@@ -1,4 +1,5 @@
 -- Demand 3 of every translation, for every hart, image and access: refused, misaligned or walked. Assumes nothing.
+use Rattle.std.specs.Prelude.{Result, Ok, Err}
 use mathlib.Core.Path.{◌≡◌, refl, sym, ap, subst, ◌∙◌}
 use mathlib.Core.Bool.{Bool, true, false}
 use mathlib.Core.List.{List, [], ◌∷◌, ◌++◌}
@@ -7,6 +8,7 @@ use native.Mathlib.Nat.{mul-one, one-mul}
 use native.Mathlib.Omega.{arith}
 use lib.ListN.{length, take, drop}
 use lib.Seq.{take-append_seam, drop-append_seam}
+use Rattle.exceptions.specs.declared.Exception.{Exception}
 use Rattle.bits.specs.Field.{pick, get}
 use Rattle.bits.proofs.Bools.{clash}
 use Rattle.registers.specs.Fields.{MXR, MODE}
@@ -25,7 +27,7 @@ use Rattle.access.specs.Widths.{misaligned}
 use Rattle.access.specs.Faults.{misalignment}
 use Rattle.stages.specs.declared.Read.{Read}
 use Rattle.stages.specs.Tree.{Ran, run}
-use Rattle.stages.specs.Stages.{Result, yields, faults, look, walk_of}
+use Rattle.stages.specs.Stages.{look, walk_of}
 use Rattle.stages.specs.Listed.{places, most, unused}
 use Rattle.stages.specs.Through.{Agree, Shown, own_right, GuestEntry, AnsweredThrough}
 use Rattle.stages.proofs.Bounds.{most-places, at_most}
@@ -46,7 +48,7 @@ use Rattle.translate.proofs.Cases.{ran_of, AtOnce, refused, misaligned-by, each}
 abbrev pub listed : Translated → List Read
 listed t = take t.count t.reads
 
-pub listed-walk : (h : Hart) (r : Ran (Result Machine)) → listed (walked_to h r) ≡ r.reads
+pub listed-walk : (h : Hart) (r : Ran (Result Machine Exception)) → listed (walked_to h r) ≡ r.reads
 listed-walk h r = take-append_seam r.reads (unused (places - length r.reads))
 
 -- no item is of the empty list
@@ -54,19 +56,19 @@ pub not_empty : {P : Type 0} (earlier : List Read) (x : Read) (later : List Read
 not_empty [] x later e = clash (cc)
 not_empty (y ∷ ys) x later e = clash (cc)
 
-address-yielded : (o : Result Machine) (m : Machine) → answer o ≡ Answer.Address m → o ≡ yields m
-address-yielded (yields x) m e = let q : x ≡ m = cc in ap yields q
-address-yielded (faults f) m e = clash (cc)
+address-yielded : (o : Result Machine Exception) (m : Machine) → answer o ≡ Answer.Address m → o ≡ Ok m
+address-yielded (Ok x) m e = let q : x ≡ m = cc in ap Ok q
+address-yielded (Err f) m e = clash (cc)
 
-walk_accepted : (o : Result Machine) → refusal (answer o) ≡ 0
-walk_accepted (yields m) = refl
-walk_accepted (faults f) = refl
+walk_accepted : (o : Result Machine Exception) → refusal (answer o) ≡ 0
+walk_accepted (Ok m) = refl
+walk_accepted (Err f) = refl
 
 module _ (h : Hart) (base : ℕ) (bytes : List ℕ) (kind : Kind) (address width : ℕ) where
   abbrev a : Access
   a = access_of h kind address width
 
-  abbrev ran : Ran (Result Machine)
+  abbrev ran : Ran (Result Machine Exception)
   ran = ran_of h base bytes kind address width
 
   abbrev t : Translated

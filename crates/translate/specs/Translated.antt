@@ -1,5 +1,6 @@
 -- The translation of an access, with its refusals: answer, list, count and hart.
-use Rattle.std.specs.Prelude.{Bool, false, ◌||◌, not, List, [], ◌∷◌, ℕ, zero, suc, ◌%◌, eqb, length}
+use Rattle.std.specs.Prelude.{Bool, false, ◌||◌, not, List, [], ◌∷◌, ℕ, zero, suc, ◌%◌, eqb, length, Result, Ok, Err}
+use Rattle.exceptions.specs.declared.Exception.{Exception}
 use Rattle.bits.specs.Field.{pick}
 use Rattle.hart.specs.declared.state.Hart.{Hart}
 use Rattle.hart.specs.Hart.{context, paging, passes}
@@ -11,7 +12,7 @@ use Rattle.access.specs.declared.Machine.{Machine}
 use Rattle.access.specs.Widths.{known, misaligned}
 use Rattle.access.specs.Faults.{misalignment}
 use Rattle.stages.specs.Tree.{Ran, run}
-use Rattle.stages.specs.Stages.{Result, yields, faults, look, walk_of}
+use Rattle.stages.specs.Stages.{look, walk_of}
 use Rattle.stages.specs.Listed.{places, unused, padded}
 use Rattle.translate.specs.declared.Answer.{Answer}
 use Rattle.translate.specs.declared.Start.{Start}
@@ -62,16 +63,16 @@ start_of h base len kind address width =
     (pick (misaligned kind address width) (Answered (Answer.Fault (misalignment (access_of h kind address width)))) (Walks (access_of h kind address width)))
 
 -- the answer that a walk's end gives
-abbrev pub answer : Result Machine → Answer
-answer (yields m) = Answer.Address m
-answer (faults f) = Answer.Fault f
+abbrev pub answer : Result Machine Exception → Answer
+answer (Ok m) = Answer.Address m
+answer (Err f) = Answer.Fault f
 
 -- an answer "with the list empty"; "its hart stays as it is"
 abbrev pub unwalked : Hart → Answer → Translated
 unwalked h x = record { hart = h; answer = x; reads = unused places; count = 0 }
 
 -- the walk's answer and list, with their count
-abbrev pub walked_to : Hart → Ran (Result Machine) → Translated
+abbrev pub walked_to : Hart → Ran (Result Machine Exception) → Translated
 walked_to h r = record { hart = h; answer = answer r.end; reads = padded places r.reads; count = length r.reads }
 
 -- what it comes to by what it came to before its walk

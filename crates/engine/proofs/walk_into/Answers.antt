@@ -1,3 +1,4 @@
+use Rattle.std.specs.Prelude.{Ok}
 use mathlib.Core.Path.{◌≡◌, sym, ◌∙◌}
 use Prim.Native.Nat.{◌-◌, ◌<◌}
 use native.Mathlib.Omega.{arith}
@@ -7,8 +8,8 @@ use borrow.Author.Tests.{eqb-true}
 use Rattle.bits.proofs.Bools.{and_left, and_right}
 use Rattle.rules.specs.Test.{test_of}
 use Rattle.access.specs.Needs.{first_need}
-use Rattle.stages.specs.Stages.{yields, look}
-use Rattle.second_stage.specs.Words.{result_of, Sees}
+use Rattle.stages.specs.Stages.{look}
+use Rattle.second_stage.specs.Words.{Sees}
 use Rattle.second_stage.proofs.Descents.{bounds, off}
 use Rattle.engine.proofs.Walks.{Walks, Arrives, astray, start, arrives, failed, finished, has_room, outside, bad, leaf, further}
 use Rattle.engine.proofs.walk_into.Goals.{After-start-guest, After-walk-s, In-At, In-Entry}
@@ -23,12 +24,12 @@ begins s =
 
 -- after the second stage
 arrival : (s : After-walk-s) → let a = s.args in
-    Arrives (look a.base a.bytes.now) a.base (length a.bytes.now) a.a a.out.now a.from s.walk-s.new.out s.walk-s.result.next s.loop-m.left (result_of s.walk-s.result.reached)
+    Arrives (look a.base a.bytes.now) a.base (length a.bytes.now) a.a a.out.now a.from s.walk-s.new.out s.walk-s.result.next s.loop-m.left s.walk-s.result.reached
 arrival s = arrives s.loop-m.invariant s.walk-s.ensures
 
 -- at a machine address
 reached : (r : In-At) → let a = r.args in
-    Arrives (look a.base a.bytes.now) a.base (length a.bytes.now) a.a a.out.now a.from r.walk-s.new.out r.walk-s.result.next r.loop-m.left (yields r.in-At.m)
+    Arrives (look a.base a.bytes.now) a.base (length a.bytes.now) a.a a.out.now a.from r.walk-s.new.out r.walk-s.result.next r.loop-m.left (Ok r.in-At.m)
 reached r = rw r.in-At.is at (arrives r.loop-m.invariant r.walk-s.ensures)
 
 -- the entry that was read, and what it is; a first-stage level was left for it

@@ -1,13 +1,14 @@
+use Rattle.std.specs.Prelude.{Result}
 use mathlib.Core.Path.{◌≡◌, sym, ap, ◌∙◌}
 use mathlib.Core.List.{[]}
 use Prim.Native.Nat.{◌+◌, ◌-◌, ◌*◌, ◌/◌, ◌≤◌, zero-le}
 use native.Mathlib.Omega.{arith}
 use lib.ListN.{length}
+use Rattle.exceptions.specs.declared.Exception.{Exception}
 use Rattle.access.specs.declared.Machine.{Machine}
 use Rattle.stages.specs.Tree.{Ran, run}
-use Rattle.stages.specs.Stages.{Result, look, walk_of}
+use Rattle.stages.specs.Stages.{look, walk_of}
 use Rattle.stages.specs.Listed.{places}
-use Rattle.second_stage.specs.Words.{result_of}
 use Rattle.engine.proofs.Places.{enough, few}
 use Rattle.engine.proofs.Left.{Left, left_by}
 use Rattle.translate.specs.Translated.{answer}
@@ -23,12 +24,12 @@ starts-walk w =
     let a = w.args in
     walking a.h a.base a.bytes.now a.kind a.address a.width _ (sym w.starts-s.ensures ∙ w.in-Walks.is)
 
-abbrev ran : After-walk_into-w → Ran (Result Machine)
+abbrev ran : After-walk_into-w → Ran (Result Machine Exception)
 ran w = let a = w.args in run (look a.base a.bytes.now) (walk_of a.base (length a.bytes.now) w.in-Walks.a)
 
 -- what the walk left
 left : (w : After-walk_into-w) → let a = w.args in
-    Left (ran w) a.out.now list_at w.walk_into-w.new.out w.walk_into-w.result.next (result_of w.walk_into-w.result.reached)
+    Left (ran w) a.out.now list_at w.walk_into-w.new.out w.walk_into-w.result.next w.walk_into-w.result.reached
 left w =
     let a = w.args in
     left_by (look a.base a.bytes.now) (walk_of a.base (length a.bytes.now) w.in-Walks.a) a.out.now list_at w.walk_into-w.ensures

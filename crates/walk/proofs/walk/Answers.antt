@@ -3,7 +3,6 @@ use native.Mathlib.Omega.{arith}
 use lib.ListN.{length}
 use Rattle.stages.specs.Tree.{run}
 use Rattle.stages.specs.Stages.{look, walk_of}
-use Rattle.second_stage.specs.Words.{reached}
 use Rattle.engine.proofs.Places.{enough, few}
 use Rattle.stages.specs.Listed.{places}
 use Rattle.walk.specs.Walked.{unpack}
