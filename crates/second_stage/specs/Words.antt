@@ -1,22 +1,11 @@
--- A walk's end as the code has it, and its run into the words of a slice, from an index on. Serves contracts below the public face.
-use Rattle.std.specs.Prelude.{◌≡◌, List, [], ◌∷◌, ℕ, ◌+◌, Option, Some, None, Result, Ok, Err}
+-- A walk's run into the words of a slice, from an index on. Serves contracts below the public face.
+use Rattle.std.specs.Prelude.{◌≡◌, List, [], ◌∷◌, ℕ, ◌+◌, Option, Some, None}
 use Rattle.std.proofs.lemmas.List.Edits.{sets}
-use Rattle.exceptions.specs.declared.Exception.{Exception}
 use Rattle.rules.specs.declared.Test.{Test}
 use Rattle.rules.specs.declared.Judgement.{Judgement}
 use Rattle.rules.specs.Test.{Judges}
 use Rattle.access.specs.declared.Machine.{Machine}
 use Rattle.stages.specs.Tree.{Walk, done, ask, found}
-use Rattle.second_stage.specs.declared.Seen.{Seen}
-
--- a walk's result as the code has it, and back
-abbrev pub reached : Result Machine Exception → Reached
-reached (Ok m) = At m
-reached (Err f) = Failed f
-
-abbrev pub result_of : Reached → Result Machine Exception
-result_of (At m) = Ok m
-result_of (Failed f) = Err f
 
 -- what a slice holds, the index behind the last read's words, and the walk's end
 pub record Into (A : Type 0) : Type 0 where
@@ -44,6 +33,6 @@ pub record Sees (look : Machine → Option ℕ) (t : Test) (stage level address 
   pub judgement : Judges t level address value j
 
 -- this, or nothing of the image is there and nothing was listed
-abbrev pub Inspects : (Machine → Option ℕ) → Test → (stage level address : ℕ) → Machine → ℕ → (before after : List ℕ) → Seen → Type 0
-Inspects look t stage level address m n before after (Seen.Entry j) = Sees look t stage level address m n before after j
-Inspects look t stage level address m n before after Seen.Outside = (look m ≡ None) × (after ≡ before)
+abbrev pub Inspects : (Machine → Option ℕ) → Test → (stage level address : ℕ) → Machine → ℕ → (before after : List ℕ) → Option Judgement → Type 0
+Inspects look t stage level address m n before after (Some j) = Sees look t stage level address m n before after j
+Inspects look t stage level address m n before after None = (look m ≡ None) × (after ≡ before)
