@@ -64,7 +64,3 @@ anew l ws e =
 pub handed : (l : List ℕ) (n : ℕ) (rs : List Read) → length l ≡ 4 * n → length rs ≤ n → unpack (sets l 0 (read_words (padded n rs))) ≡ padded n rs
 handed l n rs e h =
     ap unpack (anew l (read_words (padded n rs)) (omega (arith, length-words (padded n rs), length-padded n rs h))) ∙ unpack-words (padded n rs)
-
-pub same-reached : (r : Reached) → reached r ≡ r
-same-reached (At m) = refl
-same-reached (Failed f) = refl

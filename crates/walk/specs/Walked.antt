@@ -9,7 +9,7 @@ use Rattle.stages.specs.Listed.{places, padded}
 use Rattle.walk.specs.declared.Walked.{Walked}
 
 abbrev pub walked : Ran (Result Machine Exception) → Walked
-walked r = record { reads = padded places r.reads; count = length r.reads; reached = reached r.end }
+walked r = record { reads = padded places r.reads; count = length r.reads; reached = r.end }
 
 -- the list that words hold, four to a read
 unfoldable pub unpack : List ℕ → List Read
