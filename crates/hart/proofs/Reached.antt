@@ -71,14 +71,6 @@ done-inside h o base bytes width address word = go (stop_of h own (hypervisor_ac
 
 -- ---- as the code has it
 
--- a walk as the code hands it over
-as_walked : (h : Hart) (r : Ran End) → let w = walked r in arrives h w.reached w.reads w.count ≡ arrived h r
-as_walked h r = go r.end
-  where
-    go : (e : End) → arrives h (result_of (reached e)) (padded places r.reads) (length r.reads) ≡ arrives h e (padded places r.reads) (length r.reads)
-    go (Ok m) = refl
-    go (Err f) = refl
-
 module _ (h : Hart) (o : Operation) (base : ℕ) (bytes : List ℕ) (width address word : ℕ) where
   abbrev r : Ran End
   r = walk_for base bytes (access_for o (context h) (paging h) address width)
@@ -89,7 +81,7 @@ module _ (h : Hart) (o : Operation) (base : ℕ) (bytes : List ℕ) (width addre
   module _ {stop : Stop} (e : stop ≡ stop_of h (refusal_of o base (length bytes) width) (hypervisor_access (context h))) where
     pub goes-reach : {w : Walked} → w ≡ walked r → stop ≡ Goes → arrives h w.reached w.reads w.count ≡ reach h o base bytes width address word
     unfolding reach
-    goes-reach {w} p g = ap (λ (x : Walked). arrives h x.reached x.reads x.count) p ∙ as_walked h r ∙ ap by_stop (sym g ∙ e)
+    goes-reach {w} p g = ap (λ (x : Walked). arrives h x.reached x.reads x.count) p ∙ ap by_stop (sym g ∙ e)
 
     pub halts_reach : {refuses : Bool} {n : ℕ} → stop ≡ Halts refuses n → unwalked (pick refuses (refused h n) (raised h n word)) ≡ reach h o base bytes width address word
     unfolding reach

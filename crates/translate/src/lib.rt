@@ -2,14 +2,12 @@
 #![tactic(auto)]
 
 ghost use Rattle.std.specs.Prelude.{◌≡◌};
-ghost use Rattle.second_stage.specs.Words.{result_of};
 ghost use Rattle.translate.specs.Translated.{unsupported, start_of, answer, translated};
 
 use access::{Access, Machine};
 use exceptions::Exception;
 use hart::state::Hart;
 use rules::Kind;
-use second_stage::Reached;
 use stages::Read;
 
 #[derive(Clone, Copy)]
