@@ -11,7 +11,6 @@ use Rattle.access.specs.Widths.{known, misaligned}
 use Rattle.access.specs.Faults.{misalignment}
 use Rattle.stages.specs.Tree.{Ran, run}
 use Rattle.stages.specs.Stages.{look, walk_of}
-use Rattle.stages.specs.Listed.{places, padded}
 use Rattle.stages.proofs.Ends.{lands_inside}
 use Rattle.walk.specs.declared.Walked.{Walked}
 use Rattle.walk.specs.Walked.{walked}
@@ -24,7 +23,7 @@ use Rattle.hart.specs.declared.event.Stop.TheVariants.{Goes, Halts}
 use Rattle.hart.specs.declared.guest.Reach.{Reach}
 use Rattle.hart.specs.Hart.{context, paging, passes}
 use Rattle.hart.specs.Event.{is_done, refused, raised, refuses, raises, stop_of}
-use Rattle.hart.specs.Guest.{ended, landed, unwalked, arrives, arrived, reached_by, reach}
+use Rattle.hart.specs.Guest.{ended, landed, unwalked, arrives, reached_by, reach}
 
 -- what goes on is not refused
 pub goes_own : (h : Hart) (own : ℕ) (v : Verdict) → stop_of h own v ≡ Goes → own ≡ 0
