@@ -39,6 +39,7 @@ use Rattle.hypervisor.specs.declared.Operation.{Operation}
 use Rattle.hypervisor.specs.declared.Operation.TheVariants.{Hlv, Hlvx, Hsv}
 use Rattle.hypervisor.specs.Hypervisor.{End, by_operation, kind_of, refusal_of, access_for, walk_for}
 use Rattle.hypervisor.proofs.Taken.{taken, tables_for}
+use Rattle.exceptions.specs.declared.Refusal.{Refusal}
 use Rattle.hart.specs.declared.state.Hart.{Hart}
 use Rattle.hart.specs.declared.event.Step.{Step}
 use Rattle.hart.specs.declared.event.Stop.{Stop}
@@ -47,7 +48,7 @@ use Rattle.hart.specs.declared.guest.Reach.{Reach}
 use Rattle.hart.specs.Hart.{reg, context, paging, passes}
 use Rattle.hart.specs.Event.{refusal, is_done, refused, raised, trapped, refuses, raises, stop_of}
 use Rattle.hart.specs.Guest.{ended, unwalked, arrived, reached_by, reach}
-use Rattle.translate.specs.Translated.{first_refusal}
+use Rattle.translate.specs.Translated.{first_refusal, refusal_number}
 use Rattle.translate.proofs.Demand.{not_empty}
 use Rattle.invariants.proofs.Settled.{stop_cases}
 
@@ -95,7 +96,7 @@ module _ (h : Hart) (o : Operation) (base : ℕ) (bytes : List ℕ) (width addre
   not-refused (Err f) = refl
 
   -- "refusal 2, 1, 3 (width not 1, 2, 4, 8; HLVX of 1 or 8)": it is refused exactly by the first of these
-  pub refused-by : refusal r.outcome ≡ first_refusal ((not (passes h), 2) ∷ (unfit base (length bytes), 1) ∷ (not (by_operation o (known width) (eqb width 2 || eqb width 4) (known width)), 3) ∷ [])
+  pub refused-by : refusal r.outcome ≡ refusal_number (first_refusal ((not (passes h), Refusal.Hart) ∷ (unfit base (length bytes), Refusal.Image) ∷ (not (by_operation o (known width) (eqb width 2 || eqb width 4) (known width)), Refusal.Access) ∷ []))
   unfolding reach refusal_of
   refused-by = go (not (passes h)) (unfit base (length bytes)) (not (by_operation o (known width) (eqb width 2 || eqb width 4) (known width)))
     where
@@ -108,7 +109,7 @@ module _ (h : Hart) (o : Operation) (base : ℕ) (bytes : List ℕ) (width addre
       last false false = not-refused (walk_for base bytes accessed).end
 
       go : (a b c : Bool) → let own : ℕ = pick b 1 (pick c 3 0) in
-          refusal (reached_by (pick a (refuses 2) (pick (not (eqb own 0)) (refuses own) (pick v.gives2 (raises 2) (pick v.gives22 (raises 22) Goes)))) h word (walk_for base bytes accessed)).outcome ≡ first_refusal ((a, 2) ∷ (b, 1) ∷ (c, 3) ∷ [])
+          refusal (reached_by (pick a (refuses 2) (pick (not (eqb own 0)) (refuses own) (pick v.gives2 (raises 2) (pick v.gives22 (raises 22) Goes)))) h word (walk_for base bytes accessed)).outcome ≡ refusal_number (first_refusal ((a, Refusal.Hart) ∷ (b, Refusal.Image) ∷ (c, Refusal.Access) ∷ []))
       go true b c = refl
       go false true c = refl
       go false false true = refl
