@@ -1,5 +1,5 @@
 -- A hypervisor load or store that is done lies in the image. Assumes nothing.
-use Rattle.std.proofs.Common.{◌≡◌, ℕ, Bool, true, false, not, eqb, List, [], length, sym, refl, ap, ◌∙◌, eqb-true}
+use Rattle.std.proofs.Common.{◌≡◌, ℕ, Bool, true, false, not, eqb, List, [], length, sym, refl, ap, ◌∙◌, eqb-true, Ok, Err}
 use borrow.Author.Tests.{not-false}
 use Rattle.bits.specs.Field.{pick}
 use Rattle.bits.proofs.Bools.{clash}
@@ -10,10 +10,8 @@ use Rattle.access.specs.declared.Access.{Access}
 use Rattle.access.specs.Widths.{known, misaligned}
 use Rattle.access.specs.Faults.{misalignment}
 use Rattle.stages.specs.Tree.{Ran, run}
-use Rattle.stages.specs.Stages.{yields, faults, look, walk_of}
-use Rattle.stages.specs.Listed.{places, padded}
+use Rattle.stages.specs.Stages.{look, walk_of}
 use Rattle.stages.proofs.Ends.{lands_inside}
-use Rattle.second_stage.specs.Words.{reached, result_of}
 use Rattle.walk.specs.declared.Walked.{Walked}
 use Rattle.walk.specs.Walked.{walked}
 use Rattle.hypervisor.specs.declared.Operation.{Operation}
@@ -25,7 +23,7 @@ use Rattle.hart.specs.declared.event.Stop.TheVariants.{Goes, Halts}
 use Rattle.hart.specs.declared.guest.Reach.{Reach}
 use Rattle.hart.specs.Hart.{context, paging, passes}
 use Rattle.hart.specs.Event.{is_done, refused, raised, refuses, raises, stop_of}
-use Rattle.hart.specs.Guest.{ended, landed, unwalked, arrives, arrived, reached_by, reach}
+use Rattle.hart.specs.Guest.{ended, landed, unwalked, arrives, reached_by, reach}
 
 -- what goes on is not refused
 pub goes_own : (h : Hart) (own : ℕ) (v : Verdict) → stop_of h own v ≡ Goes → own ≡ 0
@@ -45,11 +43,11 @@ walk_inside h base bytes a = go (misaligned a.kind a.address a.width)
     R = run (look base bytes) (walk_of base (length bytes) a)
 
     at : (e : End) → R.end ≡ e → is_done (ended h e).outcome ≡ true → within base (length bytes) (landed e) a.width ≡ true
-    at (yields m) q d = lands_inside (look base bytes) base (length bytes) a m q
-    at (faults f) q d = clash d
+    at (Ok m) q d = lands_inside (look base bytes) base (length bytes) a m q
+    at (Err f) q d = clash d
 
-    go : (b : Bool) → is_done (ended h (pick b (record { end = faults (misalignment a); reads = [] }) R).end).outcome ≡ true
-        → within base (length bytes) (landed (pick b (record { end = faults (misalignment a); reads = [] }) R).end) a.width ≡ true
+    go : (b : Bool) → is_done (ended h (pick b (record { end = Err (misalignment a); reads = [] }) R).end).outcome ≡ true
+        → within base (length bytes) (landed (pick b (record { end = Err (misalignment a); reads = [] }) R).end) a.width ≡ true
     go true d = clash d
     go false d = at R.end refl d
 
@@ -72,14 +70,6 @@ done-inside h o base bytes width address word = go (stop_of h own (hypervisor_ac
 
 -- ---- as the code has it
 
--- a walk as the code hands it over
-as_walked : (h : Hart) (r : Ran End) → let w = walked r in arrives h (result_of w.reached) w.reads w.count ≡ arrived h r
-as_walked h r = go r.end
-  where
-    go : (e : End) → arrives h (result_of (reached e)) (padded places r.reads) (length r.reads) ≡ arrives h e (padded places r.reads) (length r.reads)
-    go (yields m) = refl
-    go (faults f) = refl
-
 module _ (h : Hart) (o : Operation) (base : ℕ) (bytes : List ℕ) (width address word : ℕ) where
   abbrev r : Ran End
   r = walk_for base bytes (access_for o (context h) (paging h) address width)
@@ -88,9 +78,9 @@ module _ (h : Hart) (o : Operation) (base : ℕ) (bytes : List ℕ) (width addre
   by_stop s = reached_by s h word r
 
   module _ {stop : Stop} (e : stop ≡ stop_of h (refusal_of o base (length bytes) width) (hypervisor_access (context h))) where
-    pub goes-reach : {w : Walked} → w ≡ walked r → stop ≡ Goes → arrives h (result_of w.reached) w.reads w.count ≡ reach h o base bytes width address word
+    pub goes-reach : {w : Walked} → w ≡ walked r → stop ≡ Goes → arrives h w.reached w.reads w.count ≡ reach h o base bytes width address word
     unfolding reach
-    goes-reach {w} p g = ap (λ (x : Walked). arrives h (result_of x.reached) x.reads x.count) p ∙ as_walked h r ∙ ap by_stop (sym g ∙ e)
+    goes-reach {w} p g = ap (λ (x : Walked). arrives h x.reached x.reads x.count) p ∙ ap by_stop (sym g ∙ e)
 
     pub halts_reach : {refuses : Bool} {n : ℕ} → stop ≡ Halts refuses n → unwalked (pick refuses (refused h n) (raised h n word)) ≡ reach h o base bytes width address word
     unfolding reach

@@ -8,7 +8,6 @@ ghost use Rattle.hypervisor.specs.Hypervisor.{kind_of, right_needed, offered, re
 use effective::Paging;
 use privilege::Context;
 use rules::{Kind, Right};
-use second_stage::Reached;
 use walk::Walked;
 
 #[derive(Clone, Copy)]
@@ -83,7 +82,7 @@ impl Operation {
             return Walked {
                 reads: walk::none(),
                 count: 0,
-                reached: Reached::Failed(a.misalignment()),
+                reached: Err(a.misalignment()),
             };
         }
         walk::walk(base, bytes, a)

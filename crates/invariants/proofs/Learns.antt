@@ -1,5 +1,6 @@
 -- A guest learns nothing of the host's registers: with V=1 an event comes to the same on two harts that agree on the guest and the
 -- controls. Assumes nothing.
+use Rattle.std.specs.Prelude.{Result, Ok, Err}
 use mathlib.Core.Path.{◌≡◌, refl, sym, ap, subst, ◌∙◌}
 use mathlib.Core.Bool.{Bool, true, false, ◌&&◌, ◌||◌, not}
 use mathlib.Core.Logic.{◌⊎◌, ⊎_elim}
@@ -59,8 +60,8 @@ use Rattle.hart.specs.Wait.{wfi, sfence_vma, hfence_vvma, hfence_gvma}
 use Rattle.hart.specs.Access.{seen, written, value_of, answer, access_row, access_found, access}
 use Rattle.rules.specs.declared.Kind.{Kind}
 use Rattle.effective.specs.Effective.{first_root, second_root}
-use Rattle.translate.specs.declared.Start.{Start}
-use Rattle.translate.specs.declared.Start.TheVariants.{Answered, Walks}
+use Rattle.access.specs.declared.Access.{Access}
+use Rattle.translate.specs.declared.Answer.{Answer}
 use Rattle.translate.specs.Translated.{access_of, start_of, concluded, translated}
 use Rattle.invariants.specs.Events.{Event, step_of, run}
 use Rattle.invariants.specs.Events as events
@@ -429,6 +430,6 @@ module _ (h h' : Hart) (a : Alike h h') where
   unfolding translated
   guest_translates t base bytes kind address width = rw (← same_start t base (length bytes) kind address width) (go (start_of h base (length bytes) kind address width))
     where
-      go : (s : Start) → SameTranslated (concluded h base bytes s) (concluded h' base bytes s)
-      go (Answered x) = record { answer = refl; reads = refl; count = refl }
-      go (Walks x) = record { answer = refl; reads = refl; count = refl }
+      go : (s : Result Access Answer) → SameTranslated (concluded h base bytes s) (concluded h' base bytes s)
+      go (Err x) = record { answer = refl; reads = refl; count = refl }
+      go (Ok x) = record { answer = refl; reads = refl; count = refl }

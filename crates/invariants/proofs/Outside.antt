@@ -1,4 +1,5 @@
 -- A hypervisor load or store makes the guest's access, and takes its faults outside the guest. Assumes nothing.
+use Rattle.std.specs.Prelude.{Ok, Err}
 use mathlib.Core.Path.{◌≡◌, refl}
 use mathlib.Core.Bool.{Bool, true, false, ◌&&◌, ◌||◌, not}
 use mathlib.Core.List.{List}
@@ -22,13 +23,14 @@ use Rattle.access.specs.Widths.{known, misaligned}
 use Rattle.access.specs.Needs.{first_need, second_need}
 use Rattle.access.specs.Faults.{misalignment}
 use Rattle.stages.specs.Tree.{Ran, run}
-use Rattle.stages.specs.Stages.{yields, faults, look, walk_of}
+use Rattle.stages.specs.Stages.{look, walk_of}
 use Rattle.effective.specs.declared.Paging.{Paging}
 use Rattle.effective.specs.Effective.{first_root, second_root}
 use Rattle.hypervisor.specs.declared.Operation.{Operation}
 use Rattle.hypervisor.specs.declared.Operation.TheVariants.{Hlv, Hlvx, Hsv}
 use Rattle.hypervisor.specs.Hypervisor.{End, kind_of, refusal_of, access_for, walk_for}
 use Rattle.hypervisor.proofs.Taken.{taken}
+use Rattle.exceptions.specs.Refusal.{number}
 use Rattle.hart.specs.declared.state.Hart.{Hart}
 use Rattle.hart.specs.declared.event.Step.{Step}
 use Rattle.hart.specs.declared.guest.Reach.{Reach}
@@ -40,7 +42,6 @@ use Rattle.hart.specs.Guest.{arrived, reach}
 use Rattle.hart.proofs.Reached.{goes_own}
 use Rattle.translate.specs.declared.Answer.{Answer}
 use Rattle.translate.specs.declared.Translated.{Translated}
-use Rattle.translate.specs.declared.Start.TheVariants.{Answered, Walks}
 use Rattle.translate.specs.Translated.{unsupported, access_of, start_of, walked_to, concluded, translated}
 use Rattle.invariants.proofs.Reached.{misaligned_one}
 
@@ -64,12 +65,12 @@ hlvx_needs_X c p address width e = (refl, refl, refl)
 -- what a translation answers, "a fault .. delivered as a trap"
 abbrev answered : Hart → Answer → Step
 answered h (Answer.Address m) = done (moved h)
-answered h (Answer.Refused n) = refused h n
+answered h (Answer.Refused r) = refused h (number r)
 answered h (Answer.Fault f) = trapped h f
 
 abbrev there : Answer → ℕ
 there (Answer.Address m) = m.0
-there (Answer.Refused n) = 0
+there (Answer.Refused r) = 0
 there (Answer.Fault f) = 0
 
 abbrev pub delivering : Hart → Translated → Reach
@@ -111,10 +112,10 @@ module _ (h : Hart) (o : Operation) (base : ℕ) (bytes : List ℕ) (width addre
       ran = run (look base bytes) (walk_of base (length bytes) accessed)
 
       by_end : (e : End) → arrived h (record { end = e; reads = ran.reads }) ≡ delivering h (walked_to (as_guest h) (record { end = e; reads = ran.reads }))
-      by_end (yields x) = refl
-      by_end (faults f) = refl
+      by_end (Ok x) = refl
+      by_end (Err f) = refl
 
-      by_whole : (b : Bool) → arrived h (pick b (misaligned_one accessed) ran) ≡ delivering h (concluded (as_guest h) base bytes (pick b (Answered (Answer.Fault (misalignment accessed))) (Walks accessed)))
+      by_whole : (b : Bool) → arrived h (pick b (misaligned_one accessed) ran) ≡ delivering h (concluded (as_guest h) base bytes (pick b (Err (Answer.Fault (misalignment accessed))) (Ok accessed)))
       by_whole true = refl
       by_whole false = by_end ran.end
 

@@ -1,4 +1,5 @@
 -- Demand 3 of the hypervisor loads and stores: their list is that of a walk made for the guest. Assumes nothing.
+use Rattle.std.specs.Prelude.{Ok, Err}
 use mathlib.Core.Path.{◌≡◌, refl, sym, ap, subst, ◌∙◌}
 use mathlib.Core.Bool.{Bool, true, false, ◌||◌, not}
 use mathlib.Core.List.{List, [], ◌∷◌, ◌++◌}
@@ -26,7 +27,7 @@ use Rattle.access.specs.Faults.{misalignment}
 use Rattle.access.proofs.Widths.{Aligned, a_power}
 use Rattle.stages.specs.declared.Read.{Read}
 use Rattle.stages.specs.Tree.{Ran, run}
-use Rattle.stages.specs.Stages.{yields, faults, look, machine, walk_of}
+use Rattle.stages.specs.Stages.{look, machine, walk_of}
 use Rattle.stages.specs.Listed.{places, most, unused}
 use Rattle.stages.specs.Through.{Agree, Shown, own_right, GuestEntry, AnsweredThrough}
 use Rattle.stages.proofs.Bounds.{most-places, at_most}
@@ -38,6 +39,7 @@ use Rattle.hypervisor.specs.declared.Operation.{Operation}
 use Rattle.hypervisor.specs.declared.Operation.TheVariants.{Hlv, Hlvx, Hsv}
 use Rattle.hypervisor.specs.Hypervisor.{End, by_operation, kind_of, refusal_of, access_for, walk_for}
 use Rattle.hypervisor.proofs.Taken.{taken, tables_for}
+use Rattle.exceptions.specs.declared.Refusal.{Refusal}
 use Rattle.hart.specs.declared.state.Hart.{Hart}
 use Rattle.hart.specs.declared.event.Step.{Step}
 use Rattle.hart.specs.declared.event.Stop.{Stop}
@@ -46,7 +48,7 @@ use Rattle.hart.specs.declared.guest.Reach.{Reach}
 use Rattle.hart.specs.Hart.{reg, context, paging, passes}
 use Rattle.hart.specs.Event.{refusal, is_done, refused, raised, trapped, refuses, raises, stop_of}
 use Rattle.hart.specs.Guest.{ended, unwalked, arrived, reached_by, reach}
-use Rattle.translate.specs.Translated.{first_refusal}
+use Rattle.translate.specs.Translated.{first_refusal, refusal_number}
 use Rattle.translate.proofs.Demand.{not_empty}
 use Rattle.invariants.proofs.Settled.{stop_cases}
 
@@ -59,7 +61,7 @@ listed-walk h r = take-append_seam r.reads (unused (places - length r.reads))
 
 -- a misaligned access, and one that is none
 abbrev pub misaligned_one : Access → Ran End
-misaligned_one a = record { end = faults (misalignment a); reads = [] }
+misaligned_one a = record { end = Err (misalignment a); reads = [] }
 
 whole : (o : Operation) (address width : ℕ) → misaligned (kind_of o) address width ≡ false → address % width ≡ 0
 whole Hlv address width e = eqb-true _ _ (not-false _ e)
@@ -90,11 +92,11 @@ module _ (h : Hart) (o : Operation) (base : ℕ) (bytes : List ℕ) (width addre
 
   -- what it comes to once nothing of its own stopped it is no refusal
   not-refused : (e : End) → refusal (ended h e).outcome ≡ 0
-  not-refused (yields m) = refl
-  not-refused (faults f) = refl
+  not-refused (Ok m) = refl
+  not-refused (Err f) = refl
 
   -- "refusal 2, 1, 3 (width not 1, 2, 4, 8; HLVX of 1 or 8)": it is refused exactly by the first of these
-  pub refused-by : refusal r.outcome ≡ first_refusal ((not (passes h), 2) ∷ (unfit base (length bytes), 1) ∷ (not (by_operation o (known width) (eqb width 2 || eqb width 4) (known width)), 3) ∷ [])
+  pub refused-by : refusal r.outcome ≡ refusal_number (first_refusal ((not (passes h), Refusal.Hart) ∷ (unfit base (length bytes), Refusal.Image) ∷ (not (by_operation o (known width) (eqb width 2 || eqb width 4) (known width)), Refusal.Access) ∷ []))
   unfolding reach refusal_of
   refused-by = go (not (passes h)) (unfit base (length bytes)) (not (by_operation o (known width) (eqb width 2 || eqb width 4) (known width)))
     where
@@ -107,7 +109,7 @@ module _ (h : Hart) (o : Operation) (base : ℕ) (bytes : List ℕ) (width addre
       last false false = not-refused (walk_for base bytes accessed).end
 
       go : (a b c : Bool) → let own : ℕ = pick b 1 (pick c 3 0) in
-          refusal (reached_by (pick a (refuses 2) (pick (not (eqb own 0)) (refuses own) (pick v.gives2 (raises 2) (pick v.gives22 (raises 22) Goes)))) h word (walk_for base bytes accessed)).outcome ≡ first_refusal ((a, 2) ∷ (b, 1) ∷ (c, 3) ∷ [])
+          refusal (reached_by (pick a (refuses 2) (pick (not (eqb own 0)) (refuses own) (pick v.gives2 (raises 2) (pick v.gives22 (raises 22) Goes)))) h word (walk_for base bytes accessed)).outcome ≡ refusal_number (first_refusal ((a, Refusal.Hart) ∷ (b, Refusal.Image) ∷ (c, Refusal.Access) ∷ []))
       go true b c = refl
       go false true c = refl
       go false false true = refl
@@ -202,8 +204,8 @@ module _ (h : Hart) (o : Operation) (base : ℕ) (bytes : List ℕ) (width addre
       where
         by_end : Aligned address width → (e : End) → ran.end ≡ e → is_done (arrived h (record { end = e; reads = ran.reads })).outcome ≡ true
             → AnsweredThrough vs g own address (listed (arrived h (record { end = e; reads = ran.reads }))) (machine (arrived h (record { end = e; reads = ran.reads })).at) width
-        by_end k (faults f) q d = clash d
-        by_end k (yields m) q d =
+        by_end k (Err f) q d = clash d
+        by_end k (Ok m) q d =
             rw (listed-walk h ran)
             (subst (λ (n : ℕ). AnsweredThrough vs g own address ran.reads m n) (sym k.size)
             ((guarded (look base bytes) base (length bytes) accessed second-on k.k k.small k.multiple).answer m q))
