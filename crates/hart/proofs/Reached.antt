@@ -12,10 +12,8 @@ use Rattle.access.specs.declared.Access.{Access}
 use Rattle.access.specs.Widths.{known, misaligned}
 use Rattle.access.specs.Faults.{misalignment}
 use Rattle.stages.specs.Tree.{Ran, run}
-use Rattle.stages.specs.Stages.{yields, faults, look, walk_of}
-use Rattle.stages.specs.Listed.{places, padded}
+use Rattle.stages.specs.Stages.{look, walk_of}
 use Rattle.stages.proofs.Ends.{lands_inside}
-use Rattle.second_stage.specs.Words.{reached, result_of}
 use Rattle.walk.specs.declared.Walked.{Walked}
 use Rattle.walk.specs.Walked.{walked}
 use Rattle.hypervisor.specs.declared.Operation.{Operation}
@@ -27,7 +25,7 @@ use Rattle.hart.specs.declared.event.Halt.TheVariants.{Refuses, Raises}
 use Rattle.hart.specs.declared.guest.Reach.{Reach}
 use Rattle.hart.specs.Hart.{context, paging, passes}
 use Rattle.hart.specs.Event.{is_done, halted, unless_refused, stop_of}
-use Rattle.hart.specs.Guest.{ended, landed, unwalked, arrives, arrived, reached_by, reach}
+use Rattle.hart.specs.Guest.{ended, landed, unwalked, arrives, reached_by, reach}
 
 -- what goes on is not refused
 pub goes_own : (h : Hart) (own : Result Unit Refusal) (v : Verdict) → Ok tt ≡ stop_of h own v → own ≡ Ok tt
@@ -47,11 +45,11 @@ walk_inside h base bytes a = go (misaligned a.kind a.address a.width)
     R = run (look base bytes) (walk_of base (length bytes) a)
 
     at : (e : End) → R.end ≡ e → is_done (ended h e).outcome ≡ true → within base (length bytes) (landed e) a.width ≡ true
-    at (yields m) q d = lands_inside (look base bytes) base (length bytes) a m q
-    at (faults f) q d = clash d
+    at (Ok m) q d = lands_inside (look base bytes) base (length bytes) a m q
+    at (Err f) q d = clash d
 
-    go : (b : Bool) → is_done (ended h (pick b (record { end = faults (misalignment a); reads = [] }) R).end).outcome ≡ true
-        → within base (length bytes) (landed (pick b (record { end = faults (misalignment a); reads = [] }) R).end) a.width ≡ true
+    go : (b : Bool) → is_done (ended h (pick b (record { end = Err (misalignment a); reads = [] }) R).end).outcome ≡ true
+        → within base (length bytes) (landed (pick b (record { end = Err (misalignment a); reads = [] }) R).end) a.width ≡ true
     go true d = clash d
     go false d = at R.end refl d
 
@@ -74,14 +72,6 @@ done-inside h o base bytes width address word = go (stop_of h own (hypervisor_ac
 
 -- ---- as the code has it
 
--- a walk as the code hands it over
-as_walked : (h : Hart) (r : Ran End) → let w = walked r in arrives h (result_of w.reached) w.reads w.count ≡ arrived h r
-as_walked h r = go r.end
-  where
-    go : (e : End) → arrives h (result_of (reached e)) (padded places r.reads) (length r.reads) ≡ arrives h e (padded places r.reads) (length r.reads)
-    go (yields m) = refl
-    go (faults f) = refl
-
 module _ (h : Hart) (o : Operation) (base : ℕ) (bytes : List ℕ) (width address word : ℕ) where
   abbrev r : Ran End
   r = walk_for base bytes (access_for o (context h) (paging h) address width)
@@ -92,9 +82,9 @@ module _ (h : Hart) (o : Operation) (base : ℕ) (bytes : List ℕ) (width addre
   abbrev stop : Result Unit Halt
   stop = stop_of h (refusal_of o base (length bytes) width) (hypervisor_access (context h))
 
-  pub goes-reach : {w : Walked} {t : Unit {0}} → Ok t ≡ stop → w ≡ walked r → arrives h (result_of w.reached) w.reads w.count ≡ reach h o base bytes width address word
+  pub goes-reach : {w : Walked} {t : Unit {0}} → Ok t ≡ stop → w ≡ walked r → arrives h w.reached w.reads w.count ≡ reach h o base bytes width address word
   unfolding reach
-  goes-reach {w} e p = ap (λ (x : Walked). arrives h (result_of x.reached) x.reads x.count) p ∙ as_walked h r ∙ ap by_stop e
+  goes-reach {w} e p = ap (λ (x : Walked). arrives h x.reached x.reads x.count) p ∙ ap by_stop e
 
   pub halts_reach : {x : Halt} → Err x ≡ stop → unwalked (halted h x word) ≡ reach h o base bytes width address word
   unfolding reach

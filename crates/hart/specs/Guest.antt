@@ -5,7 +5,6 @@ use Rattle.instructions.specs.Instructions.{hypervisor_access}
 use Rattle.image.specs.Data.{loaded, stored}
 use Rattle.stages.specs.declared.Read.{Read}
 use Rattle.stages.specs.Tree.{Ran}
-use Rattle.stages.specs.Stages.{yields, faults}
 use Rattle.stages.specs.Listed.{places, unused, padded}
 use Rattle.hypervisor.specs.declared.Operation.{Operation}
 use Rattle.hypervisor.specs.declared.Operation.TheVariants.{Hlv, Hlvx, Hsv}
@@ -20,13 +19,13 @@ use Rattle.hart.specs.Event.{is_done, done, trapped, halted, stop_of, moved}
 
 -- "A done one moves pc on by 4"; "a fault is delivered as a trap"
 abbrev pub ended : Hart → End → Step
-ended h (yields m) = done (moved h)
-ended h (faults f) = trapped h f
+ended h (Ok m) = done (moved h)
+ended h (Err f) = trapped h f
 
 -- the machine address of its bytes, 0 where it did not come to one
 abbrev pub landed : End → ℕ
-landed (yields m) = m.0
-landed (faults f) = 0
+landed (Ok m) = m.0
+landed (Err f) = 0
 
 -- a refusal, or 22 or 2: "with the list empty"
 abbrev pub unwalked : Step → Reach

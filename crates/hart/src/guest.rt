@@ -1,12 +1,10 @@
 // HLV, HLVX and HSV: a hypervisor reads and writes its guest's memory.
 ghost use Rattle.std.specs.Prelude.{◌≡◌};
-ghost use Rattle.second_stage.specs.Words.{result_of};
 ghost use Rattle.hart.specs.Guest.{unwalked, arrives, reach, performed, load, hlv, hlvx, hsv};
 
 use crate::event::{Outcome, Step};
 use crate::state::Hart;
 use hypervisor::Operation;
-use second_stage::Reached;
 use stages::{PLACES, Read};
 use walk::Walked;
 
@@ -62,13 +60,13 @@ fn answer(r: Reach, value: u64) -> Performed
 impl Hart {
     // What a walk comes to: a fault is delivered as a trap.
     fn arrive(self, w: Walked) -> Reach
-        ensures { result ≡ arrives self (result_of w.reached) w.reads w.count }
+        ensures { result ≡ arrives self w.reached w.reads w.count }
     {
         let reads = w.reads;
         let count = w.count;
         let reached = w.reached;
         match reached {
-            Reached::At(m) => {
+            Ok(m) => {
                 Reach {
                     hart: self.moved(),
                     outcome: Outcome::Done,
@@ -77,7 +75,7 @@ impl Hart {
                     count,
                 }
             }
-            Reached::Failed(f) => {
+            Err(f) => {
                 let s = self.take_trap(f);
                 let hart = s.hart;
                 let outcome = s.outcome;

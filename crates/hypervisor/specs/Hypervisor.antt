@@ -1,5 +1,6 @@
 -- The hypervisor loads and stores: which there are, and the walk of their access, made for the guest (2026-03).
 use Rattle.std.specs.Prelude.{Bool, ◌||◌, not, List, [], ℕ, eqb, length, Result, Ok, Err}
+use Rattle.exceptions.specs.declared.Exception.{Exception}
 use Rattle.bits.specs.Field.{pick}
 use Rattle.privilege.specs.declared.Context.{Context}
 use Rattle.exceptions.specs.declared.Refusal.{Refusal}
@@ -16,8 +17,7 @@ use Rattle.access.specs.Faults.{misalignment}
 use Rattle.effective.specs.declared.Paging.{Paging}
 use Rattle.effective.specs.Effective.{guest_access}
 use Rattle.stages.specs.Tree.{Ran, run}
-use Rattle.stages.specs.Stages.{faults, look, walk_of}
-use Rattle.stages.specs.Stages as stages
+use Rattle.stages.specs.Stages.{look, walk_of}
 use Rattle.hypervisor.specs.declared.Operation.{Operation}
 use Rattle.hypervisor.specs.declared.Operation.TheVariants.{Hlv, Hlvx, Hsv}
 
@@ -49,10 +49,10 @@ access_for o c p address width = guest_access c p (kind_of o) (right_needed o) a
 
 -- how its walk ends: at a machine address, or with a fault
 abbrev pub End : Type 0
-End = stages.Result Machine
+End = Result Machine Exception
 
 -- "a misaligned one its fault, .. with the list empty", else its walk over the image
 unfoldable pub walk_for : ℕ → List ℕ → Access → Ran End
 walk_for base bytes a =
-    pick (misaligned a.kind a.address a.width) (record { end = faults (misalignment a); reads = [] })
+    pick (misaligned a.kind a.address a.width) (record { end = Err (misalignment a); reads = [] })
     (run (look base bytes) (walk_of base (length bytes) a))

@@ -9,7 +9,6 @@ use effective::Paging;
 use exceptions::Refusal;
 use privilege::Context;
 use rules::{Kind, Right};
-use second_stage::Reached;
 use walk::Walked;
 
 #[derive(Clone, Copy)]
@@ -84,7 +83,7 @@ impl Operation {
             return Walked {
                 reads: walk::none(),
                 count: 0,
-                reached: Reached::Failed(a.misalignment()),
+                reached: Err(a.misalignment()),
             };
         }
         walk::walk(base, bytes, a)

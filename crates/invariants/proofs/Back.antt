@@ -1,4 +1,5 @@
 -- Loading back what was stored gives it. Assumes nothing.
+use Rattle.std.specs.Prelude.{Ok, Err}
 use mathlib.Core.Path.{◌≡◌, refl, sym, ap, ◌∙◌}
 use mathlib.Core.Bool.{Bool, true, false, not}
 use mathlib.Core.List.{List, [], ◌∷◌}
@@ -23,7 +24,7 @@ use Rattle.access.specs.declared.Machine.{Machine}
 use Rattle.access.specs.Widths.{misaligned}
 use Rattle.stages.specs.declared.Read.{Read}
 use Rattle.stages.specs.Tree.{Ran, run}
-use Rattle.stages.specs.Stages.{yields, faults, look, walk_of}
+use Rattle.stages.specs.Stages.{look, walk_of}
 use Rattle.stages.specs.Through.{Each, Agree}
 use Rattle.stages.proofs.Ends.{lands_inside}
 use Rattle.stages.proofs.Images.{same-walk}
@@ -80,15 +81,15 @@ module _ (h : Hart) (base : ℕ) (bytes : List ℕ) (width address word : ℕ) w
     m : Machine
     goes : stop ≡ Ok tt
     whole : misaligned (kind_of Hsv) address width ≡ false
-    ends : ran.end ≡ yields m
+    ends : ran.end ≡ Ok m
 
   went : is_done r.outcome ≡ true → Went
   unfolding reach walk_for
   went = by_stop stop refl
     where
       by_end : stop ≡ Ok (tt {0}) → misaligned (kind_of Hsv) address width ≡ false → (e : End) → ran.end ≡ e → is_done (ended h e).outcome ≡ true → Went
-      by_end g w (yields m) e d = record { m = m; goes = g; whole = w; ends = e }
-      by_end g w (faults f) e d = clash d
+      by_end g w (Ok m) e d = record { m = m; goes = g; whole = w; ends = e }
+      by_end g w (Err f) e d = clash d
 
       by_whole : stop ≡ Ok (tt {0}) → (b : Bool) → misaligned (kind_of Hsv) address width ≡ b → is_done (ended h (pick b (misaligned_one stores) ran).end).outcome ≡ true → Went
       by_whole g true w d = clash d

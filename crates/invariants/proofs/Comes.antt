@@ -1,4 +1,5 @@
 -- What any event can come to, with what is known where it does: each theorem goes by these cases. Assumes nothing.
+use Rattle.std.specs.Prelude.{Ok, Err}
 use mathlib.Core.Path.{◌≡◌, refl, sym, subst}
 use mathlib.Core.Bool.{Bool, true, false}
 use mathlib.Core.List.{List}
@@ -40,7 +41,6 @@ use Rattle.hart.specs.Return.{returned_m, returned_hs, returned_vs, returned_s, 
 use Rattle.hart.specs.Wait.{passing, wfi, sfence_vma, hfence_vvma, hfence_gvma}
 use Rattle.hart.specs.Access.{written, access_row, access_found, access}
 use Rattle.stages.specs.Tree.{Ran}
-use Rattle.stages.specs.Stages.{yields, faults}
 use Rattle.hypervisor.specs.declared.Operation.{Operation}
 use Rattle.hypervisor.specs.Hypervisor.{End, refusal_of, access_for, walk_for}
 use Rattle.hart.specs.Guest.{ended, reached_by, reach}
@@ -136,8 +136,8 @@ reach_settles o base bytes width address word h = go (stop_of h (refusal_of o ba
     go (Err halt) = refl
 
 comes_ended : (h : Hart) → passes h ≡ true → (e : End) → Comes h (ended h e)
-comes_ended h p (yields m) = moves p
-comes_ended h p (faults f) = traps p f
+comes_ended h p (Ok m) = moves p
+comes_ended h p (Err f) = traps p f
 
 -- ---- every event
 

@@ -1,4 +1,5 @@
 -- A hypervisor load or store makes the guest's access, and takes its faults outside the guest. Assumes nothing.
+use Rattle.std.specs.Prelude.{Ok, Err}
 use mathlib.Core.Path.{◌≡◌, refl}
 use mathlib.Core.Bool.{Bool, true, false, ◌&&◌, ◌||◌, not}
 use mathlib.Core.List.{List}
@@ -23,7 +24,7 @@ use Rattle.access.specs.Widths.{known, misaligned}
 use Rattle.access.specs.Needs.{first_need, second_need}
 use Rattle.access.specs.Faults.{misalignment}
 use Rattle.stages.specs.Tree.{Ran, run}
-use Rattle.stages.specs.Stages.{yields, faults, look, walk_of}
+use Rattle.stages.specs.Stages.{look, walk_of}
 use Rattle.effective.specs.declared.Paging.{Paging}
 use Rattle.effective.specs.Effective.{first_root, second_root}
 use Rattle.hypervisor.specs.declared.Operation.{Operation}
@@ -111,8 +112,8 @@ module _ (h : Hart) (o : Operation) (base : ℕ) (bytes : List ℕ) (width addre
       ran = run (look base bytes) (walk_of base (length bytes) accessed)
 
       by_end : (e : End) → arrived h (record { end = e; reads = ran.reads }) ≡ delivering h (walked_to (as_guest h) (record { end = e; reads = ran.reads }))
-      by_end (yields x) = refl
-      by_end (faults f) = refl
+      by_end (Ok x) = refl
+      by_end (Err f) = refl
 
       by_whole : (b : Bool) → arrived h (pick b (misaligned_one accessed) ran) ≡ delivering h (concluded (as_guest h) base bytes (pick b (Answered (Answer.Fault (misalignment accessed))) (Walks accessed)))
       by_whole true = refl

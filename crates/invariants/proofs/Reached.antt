@@ -1,4 +1,5 @@
 -- Demand 3 of the hypervisor loads and stores: their list is that of a walk made for the guest. Assumes nothing.
+use Rattle.std.specs.Prelude.{Ok, Err}
 use mathlib.Core.Path.{◌≡◌, refl, sym, ap, subst, ◌∙◌}
 use mathlib.Core.Bool.{Bool, true, false, ◌||◌, not}
 use mathlib.Core.List.{List, [], ◌∷◌, ◌++◌}
@@ -29,7 +30,7 @@ use Rattle.access.specs.Faults.{misalignment}
 use Rattle.access.proofs.Widths.{Aligned, a_power}
 use Rattle.stages.specs.declared.Read.{Read}
 use Rattle.stages.specs.Tree.{Ran, run}
-use Rattle.stages.specs.Stages.{yields, faults, look, machine, walk_of}
+use Rattle.stages.specs.Stages.{look, machine, walk_of}
 use Rattle.stages.specs.Listed.{places, most, unused}
 use Rattle.stages.specs.Through.{Agree, Shown, own_right, GuestEntry, AnsweredThrough}
 use Rattle.stages.proofs.Bounds.{most-places, at_most}
@@ -62,7 +63,7 @@ listed-walk h r = take-append_seam r.reads (unused (places - length r.reads))
 
 -- a misaligned access, and one that is none
 abbrev pub misaligned_one : Access → Ran End
-misaligned_one a = record { end = faults (misalignment a); reads = [] }
+misaligned_one a = record { end = Err (misalignment a); reads = [] }
 
 whole : (o : Operation) (address width : ℕ) → misaligned (kind_of o) address width ≡ false → address % width ≡ 0
 whole Hlv address width e = eqb-true _ _ (not-false _ e)
@@ -93,8 +94,8 @@ module _ (h : Hart) (o : Operation) (base : ℕ) (bytes : List ℕ) (width addre
 
   -- what it comes to once nothing of its own stopped it is no refusal
   not-refused : (e : End) → refusal (ended h e).outcome ≡ 0
-  not-refused (yields m) = refl
-  not-refused (faults f) = refl
+  not-refused (Ok m) = refl
+  not-refused (Err f) = refl
 
   -- "refusal 2, 1, 3 (width not 1, 2, 4, 8; HLVX of 1 or 8)": it is refused exactly by the first of these
   pub refused-by : refusal r.outcome ≡ first_refusal ((not (passes h), 2) ∷ (unfit base (length bytes), 1) ∷ (not (by_operation o (known width) (eqb width 2 || eqb width 4) (known width)), 3) ∷ [])
@@ -205,8 +206,8 @@ module _ (h : Hart) (o : Operation) (base : ℕ) (bytes : List ℕ) (width addre
       where
         by_end : Aligned address width → (e : End) → ran.end ≡ e → is_done (arrived h (record { end = e; reads = ran.reads })).outcome ≡ true
             → AnsweredThrough vs g own address (listed (arrived h (record { end = e; reads = ran.reads }))) (machine (arrived h (record { end = e; reads = ran.reads })).at) width
-        by_end k (faults f) q d = clash d
-        by_end k (yields m) q d =
+        by_end k (Err f) q d = clash d
+        by_end k (Ok m) q d =
             rw (listed-walk h ran)
             (subst (λ (n : ℕ). AnsweredThrough vs g own address ran.reads m n) (sym k.size)
             ((guarded (look base bytes) base (length bytes) accessed second-on k.k k.small k.multiple).answer m q))

@@ -77,9 +77,9 @@ fn write_answer(rt: &impl Print, answer: Answer) -> io::Result<()> {
             text(rt, b"address")?;
             number(rt, m.0)
         }
-        Answer::Refused(n) => {
+        Answer::Refused(r) => {
             text(rt, b"refused")?;
-            number(rt, n)
+            number(rt, u64::from(r))
         }
         Answer::Fault(f) => write_fault(rt, f),
     }
