@@ -1,7 +1,9 @@
 -- Register access: what it gives and what it writes (document 01, "Access").
-use Rattle.std.specs.Prelude.{Bool, ◌&&◌, ◌||◌, ℕ, ◌-◌, eqb, ltb}
+use Rattle.std.specs.Prelude.{Bool, ◌&&◌, ◌||◌, ℕ, ◌-◌, eqb, ltb, Result, Ok, Err}
 use Rattle.std.specs.Int.Bits.{bit_and, bit_or}
-use Rattle.bits.specs.Field.{top}
+use Rattle.bits.specs.Field.{pick, top}
+use Rattle.exceptions.specs.declared.Refusal.{Refusal}
+use Rattle.exceptions.specs.declared.Refusal.TheVariants.{Register}
 use Rattle.table.specs.declared.Row.{Row}
 use Rattle.registers.specs.Fields.{TVM, VTVM}
 use Rattle.registers.specs.Registers.{hypervisor, machine}
@@ -14,6 +16,10 @@ use Rattle.privilege.specs.Mode.{is_u, is_hs, is_vu, is_vs, is_set, gives}
 -- refusal 5: "register number over 4095"
 abbrev pub over_range : ℕ → Bool
 over_range number = ltb 4095 number
+
+-- an access's own refusal
+abbrev pub refusal_of : (number : ℕ) → Result Unit Refusal
+refusal_of number = pick (over_range number) (Err Register) (Ok tt)
 
 -- "satp 180", "hgatp 680"
 abbrev pub is_satp : Row → Bool

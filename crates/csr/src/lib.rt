@@ -2,11 +2,12 @@
 #![tactic(auto)]
 
 ghost use Rattle.std.specs.Prelude.{◌≡◌, ◌<◌};
-ghost use Rattle.csr.specs.Access.{over_range, verdict, combined};
+ghost use Rattle.csr.specs.Access.{refusal_of, verdict, combined};
 ghost use Rattle.bits.specs.Field.{pick};
 ghost use Rattle.registers.specs.Views.{shown, stored_by};
 ghost use Rattle.table.specs.Table.{view_of};
 
+use exceptions::Refusal;
 use privilege::{Context, Mode, Verdict};
 use registers::fields::{TVM, VTVM};
 use registers::rules;
@@ -21,11 +22,14 @@ pub enum Form {
     Clear,
 }
 
-// Refusal 5, or 0: a register number over 4095.
-pub fn refusal(number: u64) -> u64
-    ensures { result ≡ pick (over_range number) 5 0 }
+// An access's own refusal: a register number over 4095.
+pub fn check(number: u64) -> Result<(), Refusal>
+    ensures { result ≡ refusal_of number }
 {
-    bits::select(4095 < number, 5, 0)
+    if number > 4095 {
+        return Err(Refusal::Register);
+    }
+    Ok(())
 }
 
 // An access to the register of a row.

@@ -87,9 +87,9 @@ fn write(rt: &impl Print, p: Performed) -> io::Result<()> {
             number(rt, p.value)?;
         }
         Outcome::Trapped(cause) => write_trap(rt, hart, cause)?,
-        Outcome::Refused(n) => {
+        Outcome::Refused(refusal) => {
             text(rt, b" refused")?;
-            number(rt, n)?;
+            number(rt, u64::from(refusal))?;
         }
         // None of these events is one.
         Outcome::Interrupted(_) => {}

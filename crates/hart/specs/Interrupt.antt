@@ -1,5 +1,5 @@
 -- "A new event takes the interrupt that is due .. or leaves the hart as it is." (2026-01)
-use Rattle.std.specs.Prelude.{false}
+use Rattle.std.specs.Prelude.{false, Ok}
 use Rattle.privilege.specs.Mode.{gives}
 use Rattle.interrupts.specs.declared.Due.{Due}
 use Rattle.interrupts.specs.declared.Due.TheVariants.{To, Nothing}
@@ -17,4 +17,4 @@ taking h (To to n) = step (delivered_to to h (interruption to n)) (Interrupted n
 taking h Nothing = done h
 
 unfoldable pub interrupt : Hart → Step
-interrupt h = settled h 0 (gives false false) no_value (taking h (chosen (context h) (lines h)))
+interrupt h = settled h (Ok tt) (gives false false) no_value (taking h (chosen (context h) (lines h)))

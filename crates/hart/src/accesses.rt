@@ -4,17 +4,17 @@ ghost use Rattle.registers.specs.Places.{kept};
 ghost use Rattle.registers.specs.Views.{lets};
 ghost use Rattle.registers.specs.Registers.{count, at};
 ghost use Rattle.table.specs.Table.{row_of, view_of};
-ghost use Rattle.bits.specs.Field.{pick};
 ghost use Rattle.hart.specs.Hart.{passes};
-ghost use Rattle.hart.specs.Event.{refused, raised};
+ghost use Rattle.hart.specs.Event.{halted};
 ghost use Rattle.hart.specs.Access.{answer, goes, access_row, unlisted, access, read, write, set, clear};
 ghost use Rattle.hart.specs.Lent.{on, accessed_on};
 
 use crate::control::Control;
 use crate::event;
-use crate::event::{Outcome, Stop};
+use crate::event::{Halt, Outcome};
 use crate::state::Hart;
 use csr::Form;
+use exceptions::Refusal;
 use privilege::Verdict;
 use registers::{masks, places};
 use table::kept::Kept;
@@ -77,11 +77,11 @@ impl Control {
     }
 
     // One that halts, and answers 0.
-    fn answer_halt(self, refuses: bool, number: u64, word: u32, regs: &mut [u64]) -> Answer
+    fn answer_halt(self, halt: Halt, word: u32, regs: &mut [u64]) -> Answer
         requires { length regs.old ≡ kept }
-        ensures { accessed_on result regs.new ≡ answer (pick refuses (refused (on self regs.old) number) (raised (on self regs.old) number word)) 0 }
+        ensures { accessed_on result regs.new ≡ answer (halted (on self regs.old) halt word) 0 }
     {
-        let e = self.halt(refuses, number, word, &mut *regs);
+        let e = self.halt(halt, word, &mut *regs);
         let control = e.control;
         let outcome = e.outcome;
         Answer {
@@ -95,7 +95,7 @@ impl Control {
     fn access_row(
         self,
         passed: bool,
-        own: u64,
+        own: Result<(), Refusal>,
         place: usize,
         row: Row,
         form: Form,
@@ -108,18 +108,17 @@ impl Control {
         ensures { accessed_on result regs.new ≡ access_row (on self regs.old) own place row form w writes word }
     {
         let verdict = csr::verdict(self.context(&*regs), row, writes);
-        let stop = event::stops(passed, own, verdict);
-        match stop {
-            Stop::Goes => {
+        match event::stops(passed, own, verdict) {
+            Ok(()) => {
                 let to = table::kept::reach(place, self.v == 1);
                 self.goes(to, row.mask, form, w, writes, &mut *regs)
             }
-            Stop::Halts(refuses, number) => self.answer_halt(refuses, number, word, &mut *regs),
+            Err(halt) => self.answer_halt(halt, word, &mut *regs),
         }
     }
 
     // An access to a number that no register has.
-    fn unlisted(self, passed: bool, own: u64, word: u32, regs: &mut [u64]) -> Answer
+    fn unlisted(self, passed: bool, own: Result<(), Refusal>, word: u32, regs: &mut [u64]) -> Answer
         requires { (length regs.old ≡ kept) × (passed ≡ passes (on self regs.old)) }
         ensures { accessed_on result regs.new ≡ unlisted (on self regs.old) own word }
     {
@@ -127,16 +126,15 @@ impl Control {
             gives2: true,
             gives22: false,
         };
-        let stop = event::stops(passed, own, verdict);
-        match stop {
-            Stop::Goes => {
+        match event::stops(passed, own, verdict) {
+            Ok(()) => {
                 Answer {
                     control: self,
                     outcome: Outcome::Done,
                     value: 0,
                 }
             }
-            Stop::Halts(refuses, number) => self.answer_halt(refuses, number, word, &mut *regs),
+            Err(halt) => self.answer_halt(halt, word, &mut *regs),
         }
     }
 
@@ -154,7 +152,7 @@ impl Control {
         requires { (length regs.old ≡ kept) × (passed ≡ passes (on self regs.old)) }
         ensures { accessed_on result regs.new ≡ access (on self regs.old) form number w writes word }
     {
-        let own = csr::refusal(number);
+        let own = csr::check(number);
         let found = table::lookup(number);
         let Found::At(place, row) = found else {
             return self.unlisted(passed, own, word, &mut *regs);

@@ -2,7 +2,7 @@
 ghost use Rattle.std.specs.Prelude.{◌≡◌};
 ghost use Rattle.hart.specs.Guest.{unwalked, arrives, reach, performed, load, hlv, hlvx, hsv};
 
-use crate::event::{Outcome, Step, Stop};
+use crate::event::{Outcome, Step};
 use crate::state::Hart;
 use hypervisor::Operation;
 use stages::{PLACES, Read};
@@ -103,11 +103,10 @@ impl Hart {
         ensures { result ≡ reach self o base bytes.now width address word }
     {
         let c = self.context();
-        let own = o.refusal(base, bytes.len() as u64, width);
-        let stop = self.stops(own, instructions::hypervisor_access(c));
-        match stop {
-            Stop::Goes => self.arrive(o.walk(c, self.paging(), base, bytes, address, width)),
-            Stop::Halts(refuses, number) => unwalked(self.halt(refuses, number, word)),
+        let own = o.check(base, bytes.len() as u64, width);
+        match self.stops(own, instructions::hypervisor_access(c)) {
+            Ok(()) => self.arrive(o.walk(c, self.paging(), base, bytes, address, width)),
+            Err(halt) => unwalked(self.halt(halt, word)),
         }
     }
 

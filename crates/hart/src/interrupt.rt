@@ -3,7 +3,7 @@ ghost use Rattle.std.specs.Prelude.{◌≡◌};
 ghost use Rattle.hart.specs.Interrupt.{taking, interrupt};
 
 use crate::event;
-use crate::event::{Outcome, Step, Stop};
+use crate::event::{Outcome, Step};
 use crate::state::Hart;
 use interrupts::Due;
 
@@ -20,12 +20,7 @@ impl Hart {
                     outcome: Outcome::Interrupted(n),
                 }
             }
-            Due::Nothing => {
-                Step {
-                    hart: self,
-                    outcome: Outcome::Done,
-                }
-            }
+            Due::Nothing => self.done(),
         }
     }
 
@@ -33,13 +28,8 @@ impl Hart {
     pub fn interrupt(self) -> Step
         ensures { result ≡ interrupt self }
     {
-        let stop = self.stops(0, event::ALLOWED);
-        match stop {
-            Stop::Goes => {
-                let due = interrupts::choose(self.context(), self.lines());
-                self.take_interrupt(due)
-            }
-            Stop::Halts(refuses, number) => self.halt(refuses, number, event::NO_VALUE),
-        }
+        self.settle(Ok(()), event::ALLOWED, event::NO_VALUE, |h| {
+            h.take_interrupt(interrupts::choose(h.context(), h.lines()))
+        })
     }
 }

@@ -8,6 +8,8 @@ use lib.Dec.{eqb}
 use lib.ListN.{length}
 use borrow.Author.Tests.{eqb-true, not-false}
 use Rattle.bits.proofs.Bools.{clash}
+use Rattle.std.specs.Prelude.{Result, Ok, Err}
+use Rattle.exceptions.specs.declared.Refusal.{Refusal}
 use Rattle.table.specs.declared.Row.{Row}
 use Rattle.table.specs.declared.Found.{Found}
 use Rattle.table.specs.declared.Found.TheVariants.{At, Nothing}
@@ -29,8 +31,7 @@ use Rattle.interrupts.specs.declared.Due.{Due}
 use Rattle.interrupts.specs.declared.Due.TheVariants.{To, Nothing}
 use Rattle.interrupts.specs.Interrupts.{chosen, interruption}
 use Rattle.hart.specs.declared.event.Outcome.TheVariants.{Interrupted}
-use Rattle.hart.specs.declared.event.Stop.{Stop}
-use Rattle.hart.specs.declared.event.Stop.TheVariants.{Goes, Halts}
+use Rattle.hart.specs.declared.event.Halt.{Halt}
 use Rattle.hart.specs.Hart.{context, lines, paging, passes}
 use Rattle.hart.specs.Deliver.{delivered_to}
 use Rattle.hart.specs.Event.{step, done, refused, trapped, plain, moved, stop_of, settled_by, settled}
@@ -57,7 +58,7 @@ abbrev pub reaches : Hart → ℕ → View
 reaches h place = reached (eqb h.v 1) (at place)
 
 pub data Comes (h : Hart) : Step → Type 0 where
-  refuses : (n : ℕ) → eqb n 0 ≡ false → Comes h (refused h n)
+  refuses : (r : Refusal) → Comes h (refused h r)
   traps : passes h ≡ true → (t : Exception) → Comes h (trapped h t)
   mrets : passes h ≡ true → is_m (context h) ≡ true → Comes h (done (returned_m h))
   srets_VS : passes h ≡ true → h.v ≡ 1 → Comes h (done (returned_vs h))
@@ -69,7 +70,7 @@ pub data Comes (h : Hart) : Step → Type 0 where
   rests : passes h ≡ true → Comes h (done h)
 
 -- an event whose finished step is one of them
-comes_settled : (h : Hart) (own : ℕ) (v : Verdict) (word : ℕ) (finished : Step) → (passes h ≡ true → Allowed v → Comes h finished) → Comes h (settled h own v word finished)
+comes_settled : (h : Hart) (own : Result Unit Refusal) (v : Verdict) (word : ℕ) (finished : Step) → (passes h ≡ true → Allowed v → Comes h finished) → Comes h (settled h own v word finished)
 comes_settled h own v word finished d =
     settled_cases (Comes h) h own v word finished refuses (λ p cause w. traps p (plain cause word)) (λ p o a b. d p (record { not2 = a; not22 = b }))
 
@@ -77,7 +78,7 @@ comes_settled h own v word finished d =
 
 -- an instruction's own refusal, its verdict and the hart where it is done: its word has no part in them
 pub record Settles (h : Hart) (event : (word : ℕ) → Step) : Type 0 where
-  pub own : ℕ
+  pub own : Result Unit Refusal
   pub verdict : Verdict
   pub finished : Hart
   pub settles : (word : ℕ) → event word ≡ settled h own verdict word (done finished)
@@ -88,9 +89,9 @@ comes_sret h p true e = srets_VS p (eqb-true _ _ e)
 comes_sret h p false e = srets_HS p e
 
 settles_passing : (h : Hart) (v : Verdict) → Settles h (passing h v)
-settles_passing h v = record { own = 0; verdict = v; finished = moved h; settles = λ word. refl; comes = λ p a. moves p }
+settles_passing h v = record { own = Ok tt; verdict = v; finished = moved h; settles = λ word. refl; comes = λ p a. moves p }
 
-settles_row : (h : Hart) (own place : ℕ) (row : Row) (form : Form) (w : ℕ) (b : Bool) → place < count → row ≡ row_of (at place) → Settles h (λ word. step_of (access_row h own place row form w b word))
+settles_row : (h : Hart) (own : Result Unit Refusal) (place : ℕ) (row : Row) (form : Form) (w : ℕ) (b : Bool) → place < count → row ≡ row_of (at place) → Settles h (λ word. step_of (access_row h own place row form w b word))
 unfolding access_row
 settles_row h own place row form w b l e =
     record {
@@ -101,7 +102,7 @@ settles_row h own place row form w b l e =
       comes = λ p a. writes p place l b (subst (λ (r : Row). Allowed (verdict (context h) r b)) e a) _;
     }
 
-settles_found : (found : Found) (h : Hart) (number own : ℕ) (form : Form) (w : ℕ) (b : Bool) → first_at table number 0 ≡ found → Settles h (λ word. step_of (access_found found h own form w b word))
+settles_found : (found : Found) (h : Hart) (number : ℕ) (own : Result Unit Refusal) (form : Form) (w : ℕ) (b : Bool) → first_at table number 0 ≡ found → Settles h (λ word. step_of (access_found found h own form w b word))
 settles_found Nothing h number own form w b e = record { own = own; verdict = gives true false; finished = h; settles = λ word. refl; comes = λ p a. clash (sym a.not2) }
 settles_found (At place row) h number own form w b e =
     let l = lookup-found number place row e in
@@ -110,9 +111,9 @@ settles_found (At place row) h number own form w b e =
 pub settles_as : (i : Instruction) (h : Hart) → Settles h (executed i h)
 unfolding mret sret wfi sfence_vma hfence_vvma hfence_gvma access
 settles_as events.mret h =
-    record { own = 0; verdict = instructions.mret (context h); finished = returned_m h; settles = λ word. refl; comes = λ p a. mrets p (not-false _ a.not2) }
+    record { own = Ok tt; verdict = instructions.mret (context h); finished = returned_m h; settles = λ word. refl; comes = λ p a. mrets p (not-false _ a.not2) }
 settles_as events.sret h =
-    record { own = 0; verdict = instructions.sret (context h); finished = returned_s h; settles = λ word. refl; comes = λ p a. comes_sret h p (eqb h.v 1) refl }
+    record { own = Ok tt; verdict = instructions.sret (context h); finished = returned_s h; settles = λ word. refl; comes = λ p a. comes_sret h p (eqb h.v 1) refl }
 settles_as events.wfi h = settles_passing h (instructions.wfi (context h))
 settles_as events.sfence_vma h = settles_passing h (instructions.sfence_vma (context h))
 settles_as events.hfence_vvma h = settles_passing h (instructions.hfence_vvma (context h))
@@ -130,9 +131,9 @@ reach_settles o base bytes width address word h = go (stop_of h (refusal_of o ba
     r : Ran End
     r = walk_for base bytes (access_for o (context h) (paging h) address width)
 
-    go : (s : Stop) → step_at (reached_by s h word r) ≡ settled_by s h word (ended h r.end)
-    go Goes = refl
-    go (Halts b n) = refl
+    go : (s : Result Unit Halt) → step_at (reached_by s h word r) ≡ settled_by s h word (ended h r.end)
+    go (Ok t) = refl
+    go (Err halt) = refl
 
 comes_ended : (h : Hart) → passes h ≡ true → (e : End) → Comes h (ended h e)
 comes_ended h p (Ok m) = moves p
@@ -151,6 +152,6 @@ comes (events.executes i word) h =
     subst (Comes h) (sym (s.settles word)) (comes_settled h s.own s.verdict word (done s.finished) s.comes)
 comes (events.reaches o base bytes width address word) h = subst (Comes h) (sym (reach_settles o base bytes width address word h)) (comes_settled h _ _ _ _ (λ p a. comes_ended h p (walk_for base bytes (access_for o (context h) (paging h) address width)).end))
 comes (events.trap t) h = comes_settled h _ _ _ _ (λ p a. traps p t)
-comes events.ecall h = comes_settled h 0 _ _ _ (λ p a. traps p (plain (call_cause (context h)) 0))
-comes events.ebreak h = comes_settled h 0 _ _ _ (λ p a. traps p (breakpoint h.v h.pc))
-comes events.interrupt h = comes_settled h 0 _ _ _ (λ p a. comes_taking h p (chosen (context h) (lines h)) refl)
+comes events.ecall h = comes_settled h (Ok tt) _ _ _ (λ p a. traps p (plain (call_cause (context h)) 0))
+comes events.ebreak h = comes_settled h (Ok tt) _ _ _ (λ p a. traps p (breakpoint h.v h.pc))
+comes events.interrupt h = comes_settled h (Ok tt) _ _ _ (λ p a. comes_taking h p (chosen (context h) (lines h)) refl)

@@ -9,6 +9,7 @@ use native.Mathlib.Omega.{arith}
 use lib.Dec.{eqb}
 use lib.ListN.{length}
 use borrow.Author.Tests.{eq-eqb}
+use Rattle.std.specs.Prelude.{Result}
 use Rattle.bits.specs.Field.{pick, get}
 use Rattle.bits.proofs.Bools.{clash}
 use Rattle.bits.proofs.Fields.{get-lt}
@@ -40,7 +41,7 @@ use Rattle.hypervisor.specs.declared.Operation.TheVariants.{Hlv, Hlvx, Hsv}
 use Rattle.hypervisor.specs.Hypervisor.{End, by_operation, kind_of, refusal_of, access_for, walk_for}
 use Rattle.hart.specs.declared.state.Hart.{Hart}
 use Rattle.hart.specs.declared.event.Step.{Step}
-use Rattle.hart.specs.declared.event.Stop.{Stop}
+use Rattle.hart.specs.declared.event.Halt.{Halt}
 use Rattle.hart.specs.declared.guest.Reach.{Reach}
 use Rattle.hart.specs.declared.event.Outcome.TheVariants.{Trapped}
 use Rattle.hart.specs.Hart.{reg, context, paging, passes}
@@ -113,7 +114,7 @@ module _ (h : Hart) (o : Operation) (base : ℕ) (bytes : List ℕ) (width addre
   every-trap cause =
       subst (λ (s : Step). s.outcome ≡ Trapped cause → Trap cause s) (sym (reach_settles o base bytes width address word h))
       (settled_cases (λ (s : Step). s.outcome ≡ Trapped cause → Trap cause s) h (refusal_of o base (length bytes) width) (hypervisor_access (context h)) word (ended h (walk_for base bytes a).end)
-      (λ n z e. clash (cc)) (λ p c which e. let k : c ≡ cause = cc in record { t = plain c word; same = k; why = by_word c which; taken = refl }) (λ p own no2 no22. by_end p no22 (walk_for base bytes a).end refl))
+      (λ r e. clash (cc)) (λ p c which e. let k : c ≡ cause = cc in record { t = plain c word; same = k; why = by_word c which; taken = refl }) (λ p own no2 no22. by_end p no22 (walk_for base bytes a).end refl))
     where
       by_end : passes h ≡ true → eqb h.v 1 ≡ false → (e : End) → (walk_for base bytes a).end ≡ e → (ended h e).outcome ≡ Trapped cause → Trap cause (ended h e)
       by_end p v (Ok m) q e = clash (cc)
@@ -213,7 +214,7 @@ module _ (h : Hart) (o : Operation) (base : ℕ) (bytes : List ℕ) (width addre
         → GuestPageFault (root (reg h vsatp)) (by_operation o Load Load Store) address true (listed r) (told r.hart)
     unfolding reach walk_for first_root second_root
     guest-page-told which high on =
-        stop_cases (λ (s : Stop). Told (reached_by s h word walked)) h (refusal_of o base (length bytes) width) (hypervisor_access (context h)) (λ n z q. clash (cc))
+        stop_cases (λ (s : Result Unit Halt). Told (reached_by s h word walked)) h (refusal_of o base (length bytes) width) (hypervisor_access (context h)) (λ r q. clash (cc))
         (λ p c w q. let k : c ≡ cause = cc in clash (sym (rw k at (excluded c w)) ∙ which)) (λ p own no2 no22. by_end p no22 walked.end refl) e
       where
         walked : Ran End

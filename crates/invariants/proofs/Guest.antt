@@ -9,6 +9,8 @@ use lib.Dec.{eqb}
 use lib.ListN.{get_or, set, length, replicate}
 use borrow.Author.Tests.{eqb-true, eqb-false, eq-eqb}
 use lib.Seq.{get_or-set_same, get_or-set_other}
+use Rattle.std.specs.Prelude.{Result}
+use Rattle.exceptions.specs.declared.Refusal.{Refusal}
 use Rattle.bits.specs.Field.{get, has, top}
 use Rattle.bits.specs.Every.{every}
 use Rattle.bits.proofs.Bools.{and_left, clash, or_left, or_right, or_cases, and_rest, split}
@@ -157,7 +159,7 @@ pub record Within (h h' : Hart) : Type 0 where
 module _ (h : Hart) (size : length h.regs ≡ kept) (word : reg h hideleg < 2 ^ 64) (v : h.v ≡ 1) where
   stays_within : (s : Step) → Comes h s → s.outcome ≡ Done → Within h s.hart
   unfolding returned_vs written
-  stays_within s (refuses n k) e = clash (cc)
+  stays_within s (refuses r) e = clash (cc)
   stays_within s (traps a t) e = clash (cc)
   stays_within s (mrets a m) e = clash (rw v at (and_left (eqb h.v 0) _ m))
   stays_within s (srets_VS a u) e = record { kept = only_guest h _ (outside_kept guest (writes_vsret h) h.regs refl); v = refl }
@@ -174,13 +176,13 @@ module _ (h : Hart) (size : length h.regs ≡ kept) (word : reg h hideleg < 2 ^ 
   guest-within e = stays_within (run e h) (comes e h)
 
 -- an access that is done keeps the privilege too
-settled-keeps : (h : Hart) (own : ℕ) (v : Verdict) (word : ℕ) (h' : Hart) → h'.privilege ≡ h.privilege
+settled-keeps : (h : Hart) (own : Result Unit Refusal) (v : Verdict) (word : ℕ) (h' : Hart) → h'.privilege ≡ h.privilege
     → (settled h own v word (done h')).outcome ≡ Done → (settled h own v word (done h')).hart.privilege ≡ h.privilege
 settled-keeps h own v word h' k =
-    settled_cases (λ (s : Step). s.outcome ≡ Done → s.hart.privilege ≡ h.privilege) h own v word (done h') (λ n z e. refl)
+    settled_cases (λ (s : Step). s.outcome ≡ Done → s.hart.privilege ≡ h.privilege) h own v word (done h') (λ r e. refl)
     (λ p cause c e. clash (cc)) (λ p o a b e. k)
 
-found-keeps : (found : Found) (h : Hart) (own : ℕ) (form : Form) (w : ℕ) (b : Bool) (word : ℕ) → (access_found found h own form w b word).outcome ≡ Done → (access_found found h own form w b word).hart.privilege ≡ h.privilege
+found-keeps : (found : Found) (h : Hart) (own : Result Unit Refusal) (form : Form) (w : ℕ) (b : Bool) (word : ℕ) → (access_found found h own form w b word).outcome ≡ Done → (access_found found h own form w b word).hart.privilege ≡ h.privilege
 unfolding access_row written
 found-keeps Nothing h own form w b word = settled-keeps h own _ _ h refl
 found-keeps (At place row) h own form w b word =

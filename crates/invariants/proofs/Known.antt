@@ -56,7 +56,7 @@ cause a = of a.outcome
     of : Outcome → ℕ
     of Done = 0
     of (Trapped c) = c
-    of (Refused n) = 0
+    of (Refused r) = 0
     of (Interrupted n) = 0
 
 -- in M, with MPP=3 and MPV=1

@@ -12,6 +12,8 @@ use lib.Dec.{eqb, ltb}
 use lib.ListN.{get_or, set, length, get_or-eq_default}
 use lib.Seq.{get_or-set_same, get_or-set_other}
 use borrow.Author.Tests.{eqb-true, eqb-false, ltb-true, not-false}
+use Rattle.std.specs.Prelude.{Result, Ok, Err}
+use Rattle.exceptions.specs.declared.Refusal.{Refusal}
 use Rattle.bits.specs.Field.{pick, top, get, has}
 use Rattle.bits.specs.Every.{every}
 use Rattle.bits.proofs.Bools.{clash, split, and-true, and-false, and_left, and_rest, or_cases}
@@ -51,8 +53,9 @@ use Rattle.hart.specs.declared.event.Step.{Step}
 use Rattle.hart.specs.declared.accesses.Accessed.{Accessed}
 use Rattle.hart.specs.Hart.{reg, context, lines}
 use Rattle.hart.specs.Deliver.{writes_m, writes_hs, writes_vs, delivered_m, delivered_hs, delivered_vs, delivered_to, delivered}
-use Rattle.hart.specs.Event.{step, trapped, plain, done, refuses, raises, settled_by, settled, moved, next}
-use Rattle.hart.specs.declared.event.Stop.TheVariants.{Goes}
+use Rattle.hart.specs.Event.{step, trapped, plain, done, unless_refused, settled_by, settled, moved, next}
+use Rattle.hart.specs.declared.event.Halt.{Halt}
+use Rattle.hart.specs.declared.event.Halt.TheVariants.{Refuses, Raises}
 use Rattle.hart.specs.Trap.{trap, ecall, ebreak}
 use Rattle.hart.specs.Interrupt.{taking, interrupt}
 use Rattle.hart.specs.Return.{writes_vsret, returned_vs, returned_s, mret, sret}
@@ -184,16 +187,16 @@ module _ (h h' : Hart) (a : Alike h h') where
   as_they_were : (o : Outcome) → Same (step h o) (step h' o)
   as_they_were o = record { outcome = refl; v = a.left.v ∙ sym a.right.v; privilege = a.privilege; guest = a.guest; handed = a.handed; pc = λ e. a.pc }
 
-  same-settled : (own : ℕ) (v v' : Verdict) (word : ℕ) (f f' : Step) → v ≡ v' → (Allowed v → Same f f') → Same (settled h own v word f) (settled h' own v' word f')
+  same-settled : (own : Result Unit Refusal) (v v' : Verdict) (word : ℕ) (f f' : Step) → v ≡ v' → (Allowed v → Same f f') → Same (settled h own v word f) (settled h' own v' word f')
   unfolding settled
-  same-settled own v v' word f f' e d = rw (← e, a.left.passing, a.right.passing) (go (not (eqb own 0)) v.gives2 refl v.gives22 refl)
+  same-settled own v v' word f f' e d = rw (← e, a.left.passing, a.right.passing) (go own v.gives2 refl v.gives22 refl)
     where
-      go : (b₁ b₂ : Bool) → v.gives2 ≡ b₂ → (b₃ : Bool) → v.gives22 ≡ b₃
-          → Same (settled_by (pick b₁ (refuses own) (pick b₂ (raises 2) (pick b₃ (raises 22) Goes))) h word f) (settled_by (pick b₁ (refuses own) (pick b₂ (raises 2) (pick b₃ (raises 22) Goes))) h' word f')
-      go true b₂ e₂ b₃ e₃ = as_they_were (Refused own)
-      go false true e₂ b₃ e₃ = same-trapped (plain 2 word)
-      go false false e₂ true e₃ = same-trapped (plain 22 word)
-      go false false e₂ false e₃ = d (record { not2 = e₂; not22 = e₃ })
+      go : (o : Result Unit Refusal) (b₂ : Bool) → v.gives2 ≡ b₂ → (b₃ : Bool) → v.gives22 ≡ b₃
+          → Same (settled_by (unless_refused o (pick b₂ (Err (Raises 2)) (pick b₃ (Err (Raises 22)) (Ok tt)))) h word f) (settled_by (unless_refused o (pick b₂ (Err (Raises 2)) (pick b₃ (Err (Raises 22)) (Ok tt)))) h' word f')
+      go (Err r) b₂ e₂ b₃ e₃ = as_they_were (Refused r)
+      go (Ok t) true e₂ b₃ e₃ = same-trapped (plain 2 word)
+      go (Ok t) false e₂ true e₃ = same-trapped (plain 22 word)
+      go (Ok t) false e₂ false e₃ = d (record { not2 = e₂; not22 = e₃ })
 
   -- ---- what is done
 
@@ -311,18 +314,18 @@ module _ (h h' : Hart) (a : Alike h h') where
     same : Same (step_of x) (step_of x')
     value : x.value ≡ x'.value
 
-  same_answer : (own : ℕ) (v v' : Verdict) (word : ℕ) (f f' : Step) (old old' : ℕ) → v ≡ v' → (Allowed v → Same f f' × (old ≡ old'))
+  same_answer : (own : Result Unit Refusal) (v v' : Verdict) (word : ℕ) (f f' : Step) (old old' : ℕ) → v ≡ v' → (Allowed v → Same f f' × (old ≡ old'))
       → SameAccess (answer (settled h own v word f) old) (answer (settled h' own v' word f') old')
   same_answer own v v' word f f' old old' e d =
       let s = same-settled own v v' word f f' e (λ k. (d k).0) in
       record {
         same = s;
         value =
-            settled_cases (λ (x : Step). value_of x.outcome old ≡ value_of x.outcome old') h own v word f (λ n z. refl) (λ p cause w. refl)
+            settled_cases (λ (x : Step). value_of x.outcome old ≡ value_of x.outcome old') h own v word f (λ r. refl) (λ p cause w. refl)
             (λ p o x y. ap (value_of f.outcome) (d (record { not2 = x; not22 = y })).1) ∙ ap (λ (o : Outcome). value_of o old') s.outcome;
       }
 
-  same_row : (own place : ℕ) (form : Form) (w : ℕ) (b : Bool) (word : ℕ) → place < count
+  same_row : (own : Result Unit Refusal) (place : ℕ) (form : Form) (w : ℕ) (b : Bool) (word : ℕ) → place < count
       → SameAccess (access_row h own place (row_of (at place)) form w b word) (access_row h' own place (row_of (at place)) form w b word)
   unfolding access_row
   same_row own place form w b word l =
@@ -334,7 +337,7 @@ module _ (h h' : Hart) (a : Alike h h') where
       let g = reads to (reached-guest h place b a.left.passing a.left.v l k) in
       rw (← t, ← g.sees) (same-written to (combined form (seen h to) w) b (reaches-home place (eqb h.v 1)) g, refl))
 
-  same-found : (number own : ℕ) (found : Found) (form : Form) (w : ℕ) (b : Bool) (word : ℕ) → first_at table number 0 ≡ found → SameAccess (access_found found h own form w b word) (access_found found h' own form w b word)
+  same-found : (number : ℕ) (own : Result Unit Refusal) (found : Found) (form : Form) (w : ℕ) (b : Bool) (word : ℕ) → first_at table number 0 ≡ found → SameAccess (access_found found h own form w b word) (access_found found h' own form w b word)
   same-found number own Nothing form w b word e = same_answer own (gives true false) (gives true false) word (done h) (done h') 0 0 refl (λ k. clash (sym k.not2))
   same-found number own (At place row) form w b word e =
       let l = lookup-found number place row e in

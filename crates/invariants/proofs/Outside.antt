@@ -8,6 +8,7 @@ use Prim.Native.Nat.{ℕ, zero, suc, ◌%◌, ◌<◌}
 use native.Mathlib.Omega.{arith}
 use lib.Dec.{eqb}
 use lib.ListN.{length}
+use Rattle.std.specs.Prelude.{Result, Ok}
 use Rattle.bits.specs.Field.{pick, get, has}
 use Rattle.bits.proofs.Bools.{and_left, and_right, or-false}
 use Rattle.bits.proofs.Fields.{get-lt}
@@ -35,8 +36,7 @@ use Rattle.hart.specs.declared.state.Hart.{Hart}
 use Rattle.hart.specs.declared.event.Step.{Step}
 use Rattle.hart.specs.declared.guest.Reach.{Reach}
 use Rattle.hart.specs.Hart.{reg, context, paging, passes}
-use Rattle.hart.specs.declared.event.Stop.{Stop}
-use Rattle.hart.specs.declared.event.Stop.TheVariants.{Goes}
+use Rattle.hart.specs.declared.event.Halt.{Halt}
 use Rattle.hart.specs.Event.{done, refused, trapped, stop_of, moved}
 use Rattle.hart.specs.Guest.{arrived, reach}
 use Rattle.hart.proofs.Reached.{goes_own}
@@ -97,11 +97,11 @@ module _ (h : Hart) (o : Operation) (base : ℕ) (bytes : List ℕ) (width addre
   abbrev accessed : Access
   accessed = access_for o (context h) (paging h) address width
 
-  abbrev stop : Stop
+  abbrev stop : Result Unit Halt
   stop = stop_of h (refusal_of o base (length bytes) width) (hypervisor_access (context h))
 
   -- one that goes on, of a hart with MPRV=0, comes to what the translation in its guest answers, a fault delivered as a trap
-  translates_as : accessed ≡ access_of (as_guest h) (kind_of o) address width → unsupported (kind_of o) address width ≡ not (known width) → passes h ≡ true → is_set MPRV (reg h mstatus) ≡ false → stop ≡ Goes
+  translates_as : accessed ≡ access_of (as_guest h) (kind_of o) address width → unsupported (kind_of o) address width ≡ not (known width) → passes h ≡ true → is_set MPRV (reg h mstatus) ≡ false → stop ≡ Ok tt
       → reach h o base bytes width address word ≡ delivering h (translated (as_guest h) base bytes (kind_of o) address width)
   unfolding reach walk_for translated start_of
   translates_as same widths p m g =
@@ -120,7 +120,7 @@ module _ (h : Hart) (o : Operation) (base : ℕ) (bytes : List ℕ) (width addre
       by_whole false = by_end ran.end
 
   -- HLV comes to what a load in the guest answers, HSV to what a store does
-  pub as_translated : (o ≡ Hlv) ⊎ (o ≡ Hsv) → passes h ≡ true → is_set MPRV (reg h mstatus) ≡ false → stop ≡ Goes → reach h o base bytes width address word ≡ delivering h (translated (as_guest h) base bytes (kind_of o) address width)
+  pub as_translated : (o ≡ Hlv) ⊎ (o ≡ Hsv) → passes h ≡ true → is_set MPRV (reg h mstatus) ≡ false → stop ≡ Ok tt → reach h o base bytes width address word ≡ delivering h (translated (as_guest h) base bytes (kind_of o) address width)
   unfolding unsupported access_of first_root second_root
   as_translated (inl e) = translates_as (rw e) (rw e (or-false (not (known width))))
   as_translated (inr e) = translates_as (rw e) (rw e (or-false (not (known width))))

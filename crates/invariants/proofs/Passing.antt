@@ -49,6 +49,7 @@ use Rattle.hart.specs.Access.{written}
 use Rattle.registers.proofs.Straight.{word-legal}
 use Rattle.invariants.specs.Events.{Event, run}
 use Rattle.invariants.specs.Learns.{guest}
+use Rattle.invariants.proofs.Settled.{some_number}
 use Rattle.invariants.proofs.Mode.{Mode, Passing, passing, passes_of}
 use Rattle.invariants.proofs.Mode as mode
 use Rattle.invariants.proofs.Writes.{all_in, outside_kept, with_holds}
@@ -337,7 +338,7 @@ reaches-MPRV h place w p b a =
 -- ---- every event
 
 leaves : (h : Hart) (s : Step) → length h.regs ≡ kept → Comes h s → refusal s.outcome ≡ 0 → passes s.hart ≡ true
-leaves h s l (refuses n z) r = clash (sym z ∙ eq-eqb n 0 r)
+leaves h s l (refuses x) r = absurd (some_number x r)
 leaves h s l (traps a t) r = passes_of (delivered h t) (delivered-passes h t (passing h a) l)
 leaves h s l (mrets a m) r = passes_of (returned_m h) (from_M h (passing h a) l)
 leaves h s l (srets_VS a v) r = passes_of (returned_vs h) (from_VS h (passing h a) l v)

@@ -11,6 +11,9 @@ use lib.Dec.{eqb}
 use lib.ListN.{length, take, drop}
 use lib.Seq.{take-append_seam, drop-append_seam}
 use borrow.Author.Tests.{eqb-true, not-false}
+use Rattle.std.specs.Prelude.{Result, Ok, Err}
+use Rattle.exceptions.specs.declared.Refusal.{Refusal}
+use Rattle.exceptions.specs.declared.Refusal.TheVariants as refusals
 use Rattle.bits.specs.Field.{pick, get}
 use Rattle.bits.proofs.Bools.{clash}
 use Rattle.registers.specs.Fields.{MXR, HU, MODE}
@@ -42,11 +45,11 @@ use Rattle.hypervisor.proofs.Taken.{taken, tables_for}
 use Rattle.exceptions.specs.declared.Refusal.{Refusal}
 use Rattle.hart.specs.declared.state.Hart.{Hart}
 use Rattle.hart.specs.declared.event.Step.{Step}
-use Rattle.hart.specs.declared.event.Stop.{Stop}
-use Rattle.hart.specs.declared.event.Stop.TheVariants.{Goes, Halts}
+use Rattle.hart.specs.declared.event.Halt.{Halt}
+use Rattle.hart.specs.declared.event.Halt.TheVariants.{Refuses, Raises}
 use Rattle.hart.specs.declared.guest.Reach.{Reach}
 use Rattle.hart.specs.Hart.{reg, context, paging, passes}
-use Rattle.hart.specs.Event.{refusal, is_done, refused, raised, trapped, refuses, raises, stop_of}
+use Rattle.hart.specs.Event.{refusal, is_done, refused, raised, trapped, unless_refused, stop_of}
 use Rattle.hart.specs.Guest.{ended, unwalked, arrived, reached_by, reach}
 use Rattle.translate.specs.Translated.{first_refusal, refusal_number}
 use Rattle.translate.proofs.Demand.{not_empty}
@@ -83,10 +86,10 @@ module _ (h : Hart) (o : Operation) (base : ℕ) (bytes : List ℕ) (width addre
   pub each : (P : Reach → Type 0) → ((s : Step) → is_done s.outcome ≡ false → P (unwalked s)) → (passes h ≡ true → Aligned address width → P (arrived h ran)) → P r
   unfolding reach walk_for
   each P u w =
-      stop_cases (λ (s : Stop). P (reached_by s h word (walk_for base bytes accessed))) h (refusal_of o base (length bytes) width) (hypervisor_access (context h)) (λ n z. u (refused h n) refl)
+      stop_cases (λ (s : Result Unit Halt). P (reached_by s h word (walk_for base bytes accessed))) h (refusal_of o base (length bytes) width) (hypervisor_access (context h)) (λ r. u (refused h r) refl)
       (λ p cause which. u (raised h cause word) refl) (λ p own no2 no22. goes p own (misaligned (kind_of o) address width) refl)
     where
-      goes : passes h ≡ true → refusal_of o base (length bytes) width ≡ 0 → (b : Bool) → misaligned (kind_of o) address width ≡ b → P (arrived h (pick b (misaligned_one accessed) ran))
+      goes : passes h ≡ true → refusal_of o base (length bytes) width ≡ Ok tt → (b : Bool) → misaligned (kind_of o) address width ≡ b → P (arrived h (pick b (misaligned_one accessed) ran))
       goes p own true e = u (trapped h (misalignment accessed)) refl
       goes p own false e = w p (a_power address width (taken o base (length bytes) width own).form (whole o address width e))
 
@@ -103,30 +106,30 @@ module _ (h : Hart) (o : Operation) (base : ℕ) (bytes : List ℕ) (width addre
       v : Verdict
       v = hypervisor_access (context h)
 
-      last : (a b : Bool) → refusal (reached_by (pick a (raises 2) (pick b (raises 22) Goes)) h word (walk_for base bytes accessed)).outcome ≡ 0
+      last : (a b : Bool) → refusal (reached_by (pick a (Err (Raises 2)) (pick b (Err (Raises 22)) (Ok (tt {0})))) h word (walk_for base bytes accessed)).outcome ≡ 0
       last true b = refl
       last false true = refl
       last false false = not-refused (walk_for base bytes accessed).end
 
-      go : (a b c : Bool) → let own : ℕ = pick b 1 (pick c 3 0) in
-          refusal (reached_by (pick a (refuses 2) (pick (not (eqb own 0)) (refuses own) (pick v.gives2 (raises 2) (pick v.gives22 (raises 22) Goes)))) h word (walk_for base bytes accessed)).outcome ≡ refusal_number (first_refusal ((a, Refusal.Hart) ∷ (b, Refusal.Image) ∷ (c, Refusal.Access) ∷ []))
+      go : (a b c : Bool) → let own : Result Unit Refusal = pick b (Err refusals.Image) (pick c (Err refusals.Access) (Ok tt)) in
+          refusal (reached_by (pick a (Err (Refuses refusals.Hart)) (unless_refused own (pick v.gives2 (Err (Raises 2)) (pick v.gives22 (Err (Raises 22)) (Ok tt))))) h word (walk_for base bytes accessed)).outcome ≡ refusal_number (first_refusal ((a, refusals.Hart) ∷ (b, refusals.Image) ∷ (c, refusals.Access) ∷ []))
       go true b c = refl
       go false true c = refl
       go false false true = refl
       go false false false = last v.gives2 v.gives22
 
   -- a refusal leaves the hart as given and the list empty
-  pub refusal_empty : 0 < refusal r.outcome → r ≡ unwalked (refused h (refusal r.outcome))
+  pub refusal_empty : 0 < refusal r.outcome → (x : Refusal) × (r ≡ unwalked (refused h x))
   unfolding reach
   refusal_empty = go (stop_of h (refusal_of o base (length bytes) width) (hypervisor_access (context h)))
     where
-      go : (s : Stop) → let x = reached_by s h word (walk_for base bytes accessed) in 0 < refusal x.outcome → x ≡ unwalked (refused h (refusal x.outcome))
-      go Goes l = absurd (omega (arith, l, not-refused (walk_for base bytes accessed).end))
-      go (Halts true n) l = refl
-      go (Halts false n) l = absurd (omega (arith, l))
+      go : (s : Result Unit Halt) → let r = reached_by s h word (walk_for base bytes accessed) in 0 < refusal r.outcome → (x : Refusal) × (r ≡ unwalked (refused h x))
+      go (Ok t) l = absurd (omega (arith, l, not-refused (walk_for base bytes accessed).end))
+      go (Err (Refuses x)) l = (x, refl)
+      go (Err (Raises n)) l = absurd (omega (arith, l))
 
   -- "V=1 gives 22; U with HU=0 gives 2", in order, with an empty list; else its walk, also with V=0 in U with HU=1, in HS and in M
-  module _ (p : passes h ≡ true) (own : refusal_of o base (length bytes) width ≡ 0) where
+  module _ (p : passes h ≡ true) (own : refusal_of o base (length bytes) width ≡ Ok tt) where
     pub gives_22 : h.v ≡ 1 → r ≡ unwalked (raised h 22 word)
     unfolding reach
     gives_22 v = rw (p, own, v)
@@ -230,6 +233,6 @@ same-reach h o base s s' width address word e = rw (← e) (go (stop_of h (refus
     m : Bool
     m = misaligned (kind_of o) address width
 
-    go : (x : Stop) → Agree (look base s) (look base s') (listed (reached_by x h word (over m s))) → reached_by x h word (over m s') ≡ reached_by x h word (over m s)
-    go (Halts b n) k = refl
-    go Goes k = ap (arrived h) (walks m k)
+    go : (x : Result Unit Halt) → Agree (look base s) (look base s') (listed (reached_by x h word (over m s))) → reached_by x h word (over m s') ≡ reached_by x h word (over m s)
+    go (Err halt) k = refl
+    go (Ok t) k = ap (arrived h) (walks m k)

@@ -7,6 +7,7 @@ use Prim.Native.Nat.{ℕ, ◌+◌}
 use lib.Dec.{eqb}
 use lib.ListN.{length, replicate}
 use lib.Seq.{sets}
+use Rattle.exceptions.specs.Refusal.{number}
 use Rattle.bits.specs.declared.Field.{Field}
 use Rattle.bits.specs.Field.{pick, get, put}
 use Rattle.bits.specs.Assign.{Assignment, ◌after◌, ◌:=◌}
@@ -87,7 +88,7 @@ outcome p = of p.outcome
     of : Outcome → ℕ
     of Done = 0
     of (Trapped cause) = cause
-    of (Refused n) = 100 + n
+    of (Refused r) = 100 + number r
     of (Interrupted n) = 200
 
 -- over an empty image, where an access that goes through has an access fault: what it came to, and the hart after it

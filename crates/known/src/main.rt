@@ -136,9 +136,9 @@ fn show_outcome(rt: &impl Print, o: Outcome) -> io::Result<()> {
             text(rt, b" trapped")?;
             number(rt, cause)
         }
-        Outcome::Refused(n) => {
+        Outcome::Refused(refusal) => {
             text(rt, b" refused")?;
-            number(rt, n)
+            number(rt, u64::from(refusal))
         }
         Outcome::Interrupted(n) => {
             text(rt, b" interrupted")?;

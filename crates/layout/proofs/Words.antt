@@ -56,7 +56,7 @@ module _ (out rest : List ℕ) (n : ℕ) where
 pub two_words : (o : Outcome) → get_or (outcome_words o) 0 0 ∷ get_or (outcome_words o) 1 0 ∷ [] ≡ outcome_words o
 two_words Done = refl
 two_words (Trapped cause) = refl
-two_words (Refused number) = refl
+two_words (Refused r) = refl
 two_words (Interrupted number) = refl
 
 -- ---- the layout loses nothing

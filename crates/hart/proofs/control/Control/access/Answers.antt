@@ -5,7 +5,7 @@ use Rattle.hart.proofs.control.Control.access.Goals as goal
 
 pub returns-in_default : goal.returns-in_default
 unfolding access
-returns-in_default c = rw (sym c.lookup-found.ensures ∙ c.in_default.is) (rw c.refusal-own.ensures at c.unlisted.ensures)
+returns-in_default c = rw (sym c.lookup-found.ensures ∙ c.in_default.is) (rw c.check-own.ensures at c.unlisted.ensures)
 
 pub access_row-requires : goal.access_row-requires
 access_row-requires c =
@@ -14,4 +14,4 @@ access_row-requires c =
 
 pub returns : goal.returns
 unfolding access
-returns c = rw (sym c.lookup-found.ensures ∙ c.in-At.is) (rw c.refusal-own.ensures at c.access_row.ensures)
+returns c = rw (sym c.lookup-found.ensures ∙ c.in-At.is) (rw c.check-own.ensures at c.access_row.ensures)
