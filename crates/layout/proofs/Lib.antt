@@ -1,3 +1,3 @@
-pub mod Words
+pub mod Written
 pub mod Lengths
 pub mod Lent

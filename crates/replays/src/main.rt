@@ -3,197 +3,177 @@
 // Answers and reads are written as in docs/REPLAY.md.
 #![tactic(auto)]
 
+ghost use Rattle.std.specs.Prelude.{◌+◌, ◌≤◌, length};
+
 use exceptions::Exception;
 use hart::state::Hart;
 use registers::places;
 use rules::Kind;
 use stages::Read;
-use std::io;
+use std::{fmt, io};
 use translate::{Answer, Translated, translate};
 
-// A row of the table is an entry, with its offset in the image from bit 32 up, and from bit 60 up what is done once it is there.
-const AT: u64 = 32;
+const BASE: u64 = 0x8000_0000;
 
-const DO: u64 = 60;
-
-const LOAD: u64 = 1;
-
-const STORE: u64 = 2;
-
-const DEEPEST: u64 = 3;
-
-const SV48: u64 = 4;
-
-const SV57: u64 = 5;
-
-const ENTRIES: [u64; 20] = [
-    // The guest with root PPN 80004: two pointers, and the three leaves.
-    0x4008 << AT | 0x2000_2001,
-    0x8000 << AT | 0x2000_2401,
-    LOAD << DO | 0x9008 << AT | 0x2000_40D7,
-    LOAD << DO | 0x9008 << AT | 0x2000_40C7,
-    LOAD << DO | 0x9008 << AT | 0x2000_4057,
-    STORE << DO | 0x9008 << AT | 0x2000_4057,
-    // The deepest walk: guest page p is the image's page p. The second stage: its root of 16 KiB, and two tables.
-    0x0000 << AT | 0x2000_1001,
-    0x4000 << AT | 0x2000_1401,
-    0x5030 << AT | 0x2000_18D7,
-    0x5038 << AT | 0x2000_1CD7,
-    0x5040 << AT | 0x2000_20D7,
-    0x5048 << AT | 0x2000_24D7,
-    // The first stage: pages 6, 7 and 8, and the page itself.
-    0x6000 << AT | 0x1C01,
-    0x7000 << AT | 0x2001,
-    DEEPEST << DO | 0x8008 << AT | 0x24C7,
-    // One page is every table of both stages, and the page itself. Second stage: a pointer to it, a leaf for guest page 1.
-    0x0000 << AT | 0x2000_0001,
-    0x0008 << AT | 0x2000_00DF,
-    // First stage: a pointer to guest page 1, a leaf for it.
-    0x0010 << AT | 0x0401,
-    SV48 << DO | 0x0018 << AT | 0x04CF,
-    SV57 << DO | 0x0018 << AT | 0x04CF,
-];
-
-fn text(rt: &impl Print, s: &[u8]) -> io::Result<()> {
-    rt.write_all(s)
-}
-
-fn number(rt: &impl Print, n: u64) -> io::Result<()> {
-    print!(rt; " {n:x}")
-}
-
-fn write_fault(rt: &impl Print, f: Exception) -> io::Result<()> {
-    text(rt, b"fault")?;
-    number(rt, f.cause)?;
-    number(rt, f.value)?;
-    number(rt, f.value2)?;
-    number(rt, f.word)?;
-    number(rt, f.flag as u64)
-}
-
-fn write_answer(rt: &impl Print, answer: Answer) -> io::Result<()> {
-    match answer {
-        Answer::Address(m) => {
-            text(rt, b"address")?;
-            number(rt, m.0)
-        }
-        Answer::Refused(r) => {
-            text(rt, b"refused")?;
-            number(rt, u64::from(r))
-        }
-        Answer::Fault(f) => write_fault(rt, f),
-    }
-}
-
-fn write_read(rt: &impl Print, r: Read) -> io::Result<()> {
-    let m = r.address;
-    text(rt, b"\nread")?;
-    number(rt, r.stage)?;
-    number(rt, r.level)?;
-    number(rt, m.0)?;
-    number(rt, r.value)
-}
-
-// Writes the answer on a line, then each read on one of its own; all numbers in hex.
-fn write(rt: &impl Print, t: Translated) -> io::Result<()> {
-    let answer = t.answer;
-    write_answer(rt, answer)?;
-    let reads = t.reads;
-    for r in reads.iter().take(t.count) {
-        write_read(rt, *r)?;
-    }
-    text(rt, b"\n")
-}
-
-fn write_length(rt: &impl Print, len: u64) -> io::Result<()> {
-    print!(rt; "{len:x}")?;
-    if image::refused(0, len) {
-        text(rt, b" refused\n")
-    } else {
-        text(rt, b" taken\n")
-    }
-}
-
-// A reset hart in VS with two registers set has an access of 8 bytes.
-fn replay(
-    rt: &impl Print,
-    image: &[u8],
+// An access of 8 bytes by a hart in VS, of whose registers two are set.
+#[derive(Clone, Copy)]
+struct Access {
     vsatp: u64,
     hgatp: u64,
     kind: Kind,
     address: u64,
-) -> io::Result<()> {
-    let mut h = Hart::reset(1, 1, 0);
-    h.regs[places::VSATP] = vsatp;
-    h.regs[places::HGATP] = hgatp;
-    write(rt, translate(h, 0x8000_0000, image, kind, address, 8))
 }
 
-// A load through both stages, each with a MODE, over the image's first page alone.
-fn deep(rt: &impl Print, image: &[u8], mode: u64, address: u64) -> io::Result<()> {
-    if 0x1000 <= image.len() {
-        let root = mode % 16 << 60;
-        replay(
-            rt,
-            &image[0..0x1000],
-            root | 1,
-            root | 0x8_0000,
-            Kind::Load,
+// By the guest with root PPN 80004.
+const LOAD: Access = Access {
+    vsatp: 0,
+    hgatp: 0x8000_0000_0008_0004,
+    kind: Kind::Load,
+    address: 0x4000_1008,
+};
+
+const STORE: Access = Access {
+    kind: Kind::Store,
+    ..LOAD
+};
+
+// Loads through both stages, of as many levels each. (Indexes are 2 above level 0, where it is 3.)
+const SV39: Access = Access {
+    vsatp: 0x8000_0000_0000_0006,
+    hgatp: 0x8000_0000_0008_0000,
+    kind: Kind::Load,
+    address: 0x1008,
+};
+
+const SV48: Access = Access {
+    vsatp: 0x9000_0000_0000_0001,
+    hgatp: 0x9000_0000_0008_0000,
+    kind: Kind::Load,
+    address: 0x100_8040_3008,
+};
+
+const SV57: Access = Access {
+    vsatp: 0xA000_0000_0000_0001,
+    hgatp: 0xA000_0000_0008_0000,
+    kind: Kind::Load,
+    address: 0x2_0100_8040_3008,
+};
+
+impl Access {
+    fn over(self, image: &[u8]) -> Translated {
+        let mut h = Hart::reset(1, 1, 0);
+        h.regs[places::VSATP] = self.vsatp;
+        h.regs[places::HGATP] = self.hgatp;
+        translate(h, BASE, image, self.kind, self.address, 8)
+    }
+}
+
+// An answer as it is written, all numbers in hex.
+#[derive(Drop)]
+struct Shown(Answer);
+
+impl fmt::Display for Shown {
+    fn fmt<W: fmt::Write>(&self, f: &mut fmt::Formatter<W>) -> fmt::Result {
+        match self.0 {
+            Answer::Address(m) => write!(f, "address {:x}", m.0),
+            Answer::Refused(refusal) => write!(f, "refused {:x}", u64::from(refusal)),
+            Answer::Fault(fault) => {
+                let Exception {
+                    cause,
+                    value,
+                    value2,
+                    word,
+                    flag,
+                } = fault;
+                let flag = u8::from(flag);
+                write!(f, "fault {cause:x} {value:x} {value2:x} {word:x} {flag}")
+            }
+        }
+    }
+}
+
+// Writes the answer on a line, then each read on one of its own.
+fn replay(rt: &impl Print, access: Access, image: &[u8]) -> io::Result<()> {
+    let Translated {
+        answer,
+        reads,
+        count,
+        ..
+    } = access.over(image);
+    println!(rt; "{}", Shown(answer))?;
+    for read in reads.iter().take(count) {
+        let Read {
+            stage,
+            level,
             address,
-        )?;
+            value,
+        } = *read;
+        println!(rt; "read {stage:x} {level:x} {:x} {value:x}", address.0)?;
     }
     Ok(())
 }
 
-// What a row asks for: an access by the guest with root PPN 80004, the deepest walk of three levels over three, in an image of ten
-// pages, or one of four or five. (Indexes are 2 above level 0, where it is 3.)
-fn act(rt: &impl Print, image: &[u8], what: u64) -> io::Result<()> {
-    match what {
-        LOAD => replay(rt, image, 0, 0x8000_0000_0008_0004, Kind::Load, 0x4000_1008),
-        STORE => replay(
-            rt,
-            image,
-            0,
-            0x8000_0000_0008_0004,
-            Kind::Store,
-            0x4000_1008,
-        ),
-        DEEPEST => {
-            if 0xA000 <= image.len() {
-                replay(
-                    rt,
-                    &image[0..0xA000],
-                    0x8000_0000_0000_0006,
-                    0x8000_0000_0008_0000,
-                    Kind::Load,
-                    0x1008,
-                )?;
-            }
-            Ok(())
-        }
-        SV48 => deep(rt, image, 9, 0x100_8040_3008),
-        SV57 => deep(rt, image, 10, 0x2_0100_8040_3008),
-        _ => Ok(()),
-    }
+fn write_length(rt: &impl Print, len: u64) -> io::Result<()> {
+    let said = if image::refused(0, len) {
+        "refused"
+    } else {
+        "taken"
+    };
+    println!(rt; "{len:x} {said}")
 }
 
-// Puts a row's entry into the image, eight bytes, little-endian, and does what the row asks for.
-fn enter(rt: &impl Print, image: &mut [u8; 0x1_1000], row: u64) -> io::Result<()> {
-    let at = (row >> AT) as usize % 0x1_0000;
-    let mut rest = row % 0x1_0000_0000;
-    for i in 0..8 {
-        image[at + i] = (rest % 256) as u8;
-        rest = rest / 256;
-    }
-    act(rt, image, row >> DO)
+// Puts an entry into an image.
+fn enter(image: &mut [u8], at: usize, entry: u64)
+    requires { at + 8 ≤ length image.old }
+{
+    image[at..at + 8].copy_from_slice(&entry.to_le_bytes());
+}
+
+// Two pointers, and the three leaves.
+fn guest(rt: &impl Print, image: &mut [u8; 0x1_1000]) -> io::Result<()> {
+    enter(image, 0x4008, 0x2000_2001);
+    enter(image, 0x8000, 0x2000_2401);
+    enter(image, 0x9008, 0x2000_40D7);
+    replay(rt, LOAD, image)?;
+    enter(image, 0x9008, 0x2000_40C7);
+    replay(rt, LOAD, image)?;
+    enter(image, 0x9008, 0x2000_4057);
+    replay(rt, LOAD, image)?;
+    replay(rt, STORE, image)
+}
+
+// In an image of ten pages: guest page p is the image's page p.
+fn deepest(rt: &impl Print, image: &mut [u8; 0xA000]) -> io::Result<()> {
+    // The second stage: its root of 16 KiB, and two tables.
+    enter(image, 0x0000, 0x2000_1001);
+    enter(image, 0x4000, 0x2000_1401);
+    enter(image, 0x5030, 0x2000_18D7);
+    enter(image, 0x5038, 0x2000_1CD7);
+    enter(image, 0x5040, 0x2000_20D7);
+    enter(image, 0x5048, 0x2000_24D7);
+    // The first stage: pages 6, 7 and 8, and the page itself.
+    enter(image, 0x6000, 0x1C01);
+    enter(image, 0x7000, 0x2001);
+    enter(image, 0x8008, 0x24C7);
+    replay(rt, SV39, image)
+}
+
+// One page is every table of both stages, and the page itself.
+fn one_page(rt: &impl Print, image: &mut [u8; 0x1000]) -> io::Result<()> {
+    // The second stage: a pointer to it, a leaf for guest page 1.
+    enter(image, 0x0000, 0x2000_0001);
+    enter(image, 0x0008, 0x2000_00DF);
+    // The first stage: a pointer to guest page 1, a leaf for it.
+    enter(image, 0x0010, 0x0401);
+    enter(image, 0x0018, 0x04CF);
+    replay(rt, SV48, image)?;
+    replay(rt, SV57, image)
 }
 
 fn main(rt: HostRuntime) -> io::Result<()> {
     write_length(&rt, 0x400_0000)?;
     write_length(&rt, 0x400_1000)?;
-    let mut image = [0u8; 0x1_1000];
-    for row in ENTRIES {
-        enter(&rt, &mut image, row)?;
-    }
-    Ok(())
+    guest(&rt, &mut [0; 0x1_1000])?;
+    deepest(&rt, &mut [0; 0xA000])?;
+    one_page(&rt, &mut [0; 0x1000])
 }
