@@ -1,6 +1,6 @@
 -- A hypervisor load or store makes the guest's access, and takes its faults outside the guest. Assumes nothing.
 use Rattle.std.specs.Prelude.{Ok, Err}
-use mathlib.Core.Path.{◌≡◌, refl}
+use mathlib.Core.Path.{◌≡◌, refl, sym}
 use mathlib.Core.Bool.{Bool, true, false, ◌&&◌, ◌||◌, not}
 use mathlib.Core.List.{List}
 use mathlib.Core.Logic.{◌⊎◌, inl, inr}
@@ -41,7 +41,6 @@ use Rattle.hart.specs.Guest.{arrived, reach}
 use Rattle.hart.proofs.Reached.{goes_own}
 use Rattle.translate.specs.declared.Answer.{Answer}
 use Rattle.translate.specs.declared.Translated.{Translated}
-use Rattle.translate.specs.declared.Start.TheVariants.{Answered, Walks}
 use Rattle.translate.specs.Translated.{unsupported, access_of, start_of, walked_to, concluded, translated}
 use Rattle.invariants.proofs.Reached.{misaligned_one}
 
@@ -65,12 +64,12 @@ hlvx_needs_X c p address width e = (refl, refl, refl)
 -- what a translation answers, "a fault .. delivered as a trap"
 abbrev answered : Hart → Answer → Step
 answered h (Answer.Address m) = done (moved h)
-answered h (Answer.Refused n) = refused h n
+answered h (Answer.Refused r) = refused h r
 answered h (Answer.Fault f) = trapped h f
 
 abbrev there : Answer → ℕ
 there (Answer.Address m) = m.0
-there (Answer.Refused n) = 0
+there (Answer.Refused r) = 0
 there (Answer.Fault f) = 0
 
 abbrev pub delivering : Hart → Translated → Reach
@@ -105,7 +104,7 @@ module _ (h : Hart) (o : Operation) (base : ℕ) (bytes : List ℕ) (width addre
       → reach h o base bytes width address word ≡ delivering h (translated (as_guest h) base bytes (kind_of o) address width)
   unfolding reach walk_for translated start_of
   translates_as same widths p m g =
-      let k = taken o base (length bytes) width (goes_own h (refusal_of o base (length bytes) width) (hypervisor_access (context h)) g) in
+      let k = taken o base (length bytes) width (goes_own h (refusal_of o base (length bytes) width) (hypervisor_access (context h)) (sym g)) in
       rw (g, guest-passes h p m, k.image, widths, k.form, ← same) (by_whole (misaligned (kind_of o) address width))
     where
       ran : Ran End
@@ -115,7 +114,7 @@ module _ (h : Hart) (o : Operation) (base : ℕ) (bytes : List ℕ) (width addre
       by_end (Ok x) = refl
       by_end (Err f) = refl
 
-      by_whole : (b : Bool) → arrived h (pick b (misaligned_one accessed) ran) ≡ delivering h (concluded (as_guest h) base bytes (pick b (Answered (Answer.Fault (misalignment accessed))) (Walks accessed)))
+      by_whole : (b : Bool) → arrived h (pick b (misaligned_one accessed) ran) ≡ delivering h (concluded (as_guest h) base bytes (pick b (Err (Answer.Fault (misalignment accessed))) (Ok accessed)))
       by_whole true = refl
       by_whole false = by_end ran.end
 

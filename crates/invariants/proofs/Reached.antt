@@ -50,7 +50,7 @@ use Rattle.hart.specs.declared.guest.Reach.{Reach}
 use Rattle.hart.specs.Hart.{reg, context, paging, passes}
 use Rattle.hart.specs.Event.{refusal, is_done, refused, raised, trapped, unless_refused, stop_of}
 use Rattle.hart.specs.Guest.{ended, unwalked, arrived, reached_by, reach}
-use Rattle.translate.specs.Translated.{first_refusal}
+use Rattle.translate.specs.Translated.{first_refusal, refusal_number}
 use Rattle.translate.proofs.Demand.{not_empty}
 use Rattle.invariants.proofs.Settled.{stop_cases}
 
@@ -98,7 +98,7 @@ module _ (h : Hart) (o : Operation) (base : ℕ) (bytes : List ℕ) (width addre
   not-refused (Err f) = refl
 
   -- "refusal 2, 1, 3 (width not 1, 2, 4, 8; HLVX of 1 or 8)": it is refused exactly by the first of these
-  pub refused-by : refusal r.outcome ≡ first_refusal ((not (passes h), 2) ∷ (unfit base (length bytes), 1) ∷ (not (by_operation o (known width) (eqb width 2 || eqb width 4) (known width)), 3) ∷ [])
+  pub refused-by : refusal r.outcome ≡ refusal_number (first_refusal ((not (passes h), Refusal.Hart) ∷ (unfit base (length bytes), Refusal.Image) ∷ (not (by_operation o (known width) (eqb width 2 || eqb width 4) (known width)), Refusal.Access) ∷ []))
   unfolding reach refusal_of
   refused-by = go (not (passes h)) (unfit base (length bytes)) (not (by_operation o (known width) (eqb width 2 || eqb width 4) (known width)))
     where
@@ -111,7 +111,7 @@ module _ (h : Hart) (o : Operation) (base : ℕ) (bytes : List ℕ) (width addre
       last false false = not-refused (walk_for base bytes accessed).end
 
       go : (a b c : Bool) → let own : Result Unit Refusal = pick b (Err refusals.Image) (pick c (Err refusals.Access) (Ok tt)) in
-          refusal (reached_by (pick a (Err (Refuses refusals.Hart)) (unless_refused own (pick v.gives2 (Err (Raises 2)) (pick v.gives22 (Err (Raises 22)) (Ok tt))))) h word (walk_for base bytes accessed)).outcome ≡ first_refusal ((a, 2) ∷ (b, 1) ∷ (c, 3) ∷ [])
+          refusal (reached_by (pick a (Err (Refuses refusals.Hart)) (unless_refused own (pick v.gives2 (Err (Raises 2)) (pick v.gives22 (Err (Raises 22)) (Ok tt))))) h word (walk_for base bytes accessed)).outcome ≡ refusal_number (first_refusal ((a, refusals.Hart) ∷ (b, refusals.Image) ∷ (c, refusals.Access) ∷ []))
       go true b c = refl
       go false true c = refl
       go false false true = refl
