@@ -1,13 +1,11 @@
 -- Register access (document 01, "Access"), with its instruction word (2026-02).
-use Rattle.std.specs.Prelude.{ℕ, Bool, true, false, ◌==◌, Result}
+use Rattle.std.specs.Prelude.{ℕ, Bool, true, false, ◌==◌, Option, Some, None, Result}
 use Rattle.std.proofs.Math.ListN as list
 use Rattle.bits.specs.Field.{pick}
 use Rattle.exceptions.specs.declared.Refusal.{Refusal}
 use Rattle.registers.specs.Views.{View, lets, shown, stored_by}
 use Rattle.registers.specs.Registers.{at}
 use Rattle.table.specs.declared.Row.{Row}
-use Rattle.table.specs.declared.Found.{Found}
-use Rattle.table.specs.declared.Found.TheVariants.{At, Nothing}
 use Rattle.table.specs.Table.{table, first_at, reached}
 use Rattle.privilege.specs.Mode.{gives}
 use Rattle.csr.specs.declared.Form.{Form}
@@ -60,9 +58,9 @@ abbrev pub unlisted : Hart → (own : Result Unit Refusal) → (word : ℕ) → 
 unlisted h own word = answer (settled h own (gives true false) word (done h)) 0
 
 -- the row that bears the number, or none
-abbrev pub access_found : Found → Hart → (own : Result Unit Refusal) → Form → ℕ → Bool → (word : ℕ) → Accessed
-access_found Nothing h own form w writes word = unlisted h own word
-access_found (At place row) h own form w writes word = access_row h own place row form w writes word
+abbrev pub access_found : Option (ℕ × Row) → Hart → (own : Result Unit Refusal) → Form → ℕ → Bool → (word : ℕ) → Accessed
+access_found None h own form w writes word = unlisted h own word
+access_found (Some (place, row)) h own form w writes word = access_row h own place row form w writes word
 
 unfoldable pub access : Hart → Form → ℕ → ℕ → Bool → (word : ℕ) → Accessed
 access h form number w writes word = access_found (first_at table number 0) h (refusal_of number) form w writes word

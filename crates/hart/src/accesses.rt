@@ -17,8 +17,8 @@ use csr::Form;
 use exceptions::Refusal;
 use privilege::Verdict;
 use registers::{masks, places};
+use table::Row;
 use table::kept::Kept;
-use table::{Found, Row};
 
 // The value answered is the old one where the access was done, and 0 where it trapped or was refused.
 #[derive(Clone, Copy)]
@@ -153,8 +153,7 @@ impl Control {
         ensures { accessed_on result regs.new ≡ access (on self regs.old) form number w writes word }
     {
         let own = csr::check(number);
-        let found = table::lookup(number);
-        let Found::At(place, row) = found else {
+        let Some((place, row)) = table::lookup(number) else {
             return self.unlisted(passed, own, word, &mut *regs);
         };
         self.access_row(passed, own, place, row, form, w, writes, word, &mut *regs)

@@ -5,22 +5,20 @@ ghost use Rattle.hart.specs.Interrupt.{taking, interrupt};
 use crate::event;
 use crate::event::{Outcome, Step};
 use crate::state::Hart;
-use interrupts::Due;
+use delivery::Target;
 
 impl Hart {
     // The interrupt is taken, or none is due.
-    fn take_interrupt(self, due: Due) -> Step
+    fn take_interrupt(self, due: Option<(Target, u64)>) -> Step
         ensures { result ≡ taking self due }
     {
-        match due {
-            Due::To(to, n) => {
-                let taken = self.deliver_to(to, interrupts::exception(to, n));
-                Step {
-                    hart: taken,
-                    outcome: Outcome::Interrupted(n),
-                }
-            }
-            Due::Nothing => self.done(),
+        let Some((to, n)) = due else {
+            return self.done();
+        };
+        let taken = self.deliver_to(to, interrupts::exception(to, n));
+        Step {
+            hart: taken,
+            outcome: Outcome::Interrupted(n),
         }
     }
 

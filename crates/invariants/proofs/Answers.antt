@@ -3,10 +3,9 @@ use mathlib.Core.Path.{◌≡◌, refl}
 use mathlib.Core.Bool.{Bool}
 use Prim.Native.Nat.{ℕ, ◌<◌}
 use native.Mathlib.Omega.{arith}
-use Rattle.std.specs.Prelude.{Result}
+use Rattle.std.specs.Prelude.{Result, Option, Some, None}
 use Rattle.exceptions.specs.declared.Refusal.{Refusal}
-use Rattle.table.specs.declared.Found.{Found}
-use Rattle.table.specs.declared.Found.TheVariants.{At, Nothing}
+use Rattle.table.specs.declared.Row.{Row}
 use Rattle.table.specs.Table.{table, first_at}
 use Rattle.hart.specs.declared.state.Hart.{Hart}
 use Rattle.hart.specs.declared.event.Outcome.{Outcome}
@@ -41,10 +40,10 @@ pub record Answers (o : Outcome) (value : ℕ) : Type 0 where
 answers : (o : Outcome) (old : ℕ) → Answers o (value_of o old)
 answers o old = record { trapped = λ cause e. rw e; refused = λ r e. rw e }
 
-found_answers : (found : Found) (h : Hart) (own : Result Unit Refusal) (form : Form) (w : ℕ) (b : Bool) (word : ℕ) → Answers (access_found found h own form w b word).outcome (access_found found h own form w b word).value
+found_answers : (found : Option (ℕ × Row)) (h : Hart) (own : Result Unit Refusal) (form : Form) (w : ℕ) (b : Bool) (word : ℕ) → Answers (access_found found h own form w b word).outcome (access_found found h own form w b word).value
 unfolding access_row
-found_answers Nothing h own form w b word = answers _ 0
-found_answers (At place row) h own form w b word = answers _ _
+found_answers None h own form w b word = answers _ 0
+found_answers (Some (place, row)) h own form w b word = answers _ _
 
 -- an access that traps or is refused answers 0
 pub access_answers : (h : Hart) (form : Form) (number w : ℕ) (b : Bool) (word : ℕ) → Answers (access h form number w b word).outcome (access h form number w b word).value

@@ -1,5 +1,5 @@
 -- What any event can come to, with what is known where it does: each theorem goes by these cases. Assumes nothing.
-use Rattle.std.specs.Prelude.{Ok, Err}
+use Rattle.std.specs.Prelude.{Ok, Err, Option, Some, None}
 use mathlib.Core.Path.{◌≡◌, refl, sym, subst}
 use mathlib.Core.Bool.{Bool, true, false}
 use mathlib.Core.List.{List}
@@ -11,8 +11,6 @@ use Rattle.bits.proofs.Bools.{clash}
 use Rattle.std.specs.Prelude.{Result, Ok, Err}
 use Rattle.exceptions.specs.declared.Refusal.{Refusal}
 use Rattle.table.specs.declared.Row.{Row}
-use Rattle.table.specs.declared.Found.{Found}
-use Rattle.table.specs.declared.Found.TheVariants.{At, Nothing}
 use Rattle.registers.specs.Views.{View}
 use Rattle.registers.specs.Registers.{count, at}
 use Rattle.table.specs.Table.{row_of, table, first_at, reached}
@@ -27,8 +25,6 @@ use Rattle.hart.specs.declared.state.Hart.{Hart}
 use Rattle.hart.specs.declared.event.Step.{Step}
 use Rattle.csr.specs.declared.Form.{Form}
 use Rattle.delivery.specs.declared.Target.{Target}
-use Rattle.interrupts.specs.declared.Due.{Due}
-use Rattle.interrupts.specs.declared.Due.TheVariants.{To, Nothing}
 use Rattle.interrupts.specs.Interrupts.{chosen, interruption}
 use Rattle.hart.specs.declared.event.Outcome.TheVariants.{Interrupted}
 use Rattle.hart.specs.declared.event.Halt.{Halt}
@@ -66,7 +62,7 @@ pub data Comes (h : Hart) : Step → Type 0 where
   moves : passes h ≡ true → Comes h (done (moved h))
   writes : passes h ≡ true → (place : ℕ) → place < count → (w : Bool) → Allowed (verdict (context h) (row_of (at place)) w) → (x : ℕ)
       → Comes h (done (written h (reaches h place) x w))
-  interrupts : passes h ≡ true → (to : Target) (n : ℕ) → chosen (context h) (lines h) ≡ To to n → Comes h (step (delivered_to to h (interruption to n)) (Interrupted n))
+  interrupts : passes h ≡ true → (to : Target) (n : ℕ) → chosen (context h) (lines h) ≡ Some (to, n) → Comes h (step (delivered_to to h (interruption to n)) (Interrupted n))
   rests : passes h ≡ true → Comes h (done h)
 
 -- an event whose finished step is one of them
@@ -102,9 +98,9 @@ settles_row h own place row form w b l e =
       comes = λ p a. writes p place l b (subst (λ (r : Row). Allowed (verdict (context h) r b)) e a) _;
     }
 
-settles_found : (found : Found) (h : Hart) (number : ℕ) (own : Result Unit Refusal) (form : Form) (w : ℕ) (b : Bool) → first_at table number 0 ≡ found → Settles h (λ word. step_of (access_found found h own form w b word))
-settles_found Nothing h number own form w b e = record { own = own; verdict = gives true false; finished = h; settles = λ word. refl; comes = λ p a. clash (sym a.not2) }
-settles_found (At place row) h number own form w b e =
+settles_found : (found : Option (ℕ × Row)) (h : Hart) (number : ℕ) (own : Result Unit Refusal) (form : Form) (w : ℕ) (b : Bool) → first_at table number 0 ≡ found → Settles h (λ word. step_of (access_found found h own form w b word))
+settles_found None h number own form w b e = record { own = own; verdict = gives true false; finished = h; settles = λ word. refl; comes = λ p a. clash (sym a.not2) }
+settles_found (Some (place, row)) h number own form w b e =
     let l = lookup-found number place row e in
     settles_row h own place row form w b l.below l.row
 
@@ -141,9 +137,9 @@ comes_ended h p (Err f) = traps p f
 
 -- ---- every event
 
-comes_taking : (h : Hart) → passes h ≡ true → (d : Due) → chosen (context h) (lines h) ≡ d → Comes h (taking h d)
-comes_taking h p (To to n) e = interrupts p to n e
-comes_taking h p Nothing e = rests p
+comes_taking : (h : Hart) → passes h ≡ true → (d : Option (Target × ℕ)) → chosen (context h) (lines h) ≡ d → Comes h (taking h d)
+comes_taking h p (Some (to, n)) e = interrupts p to n e
+comes_taking h p None e = rests p
 
 pub comes : (e : Event) (h : Hart) → Comes h (run e h)
 unfolding run trap ecall ebreak interrupt

@@ -9,7 +9,7 @@ use lib.Dec.{eqb}
 use lib.ListN.{get_or, set, length, replicate}
 use borrow.Author.Tests.{eqb-true, eqb-false, eq-eqb}
 use lib.Seq.{get_or-set_same, get_or-set_other}
-use Rattle.std.specs.Prelude.{Result}
+use Rattle.std.specs.Prelude.{Result, Option, Some, None}
 use Rattle.exceptions.specs.declared.Refusal.{Refusal}
 use Rattle.bits.specs.Field.{get, has, top}
 use Rattle.bits.specs.Every.{every}
@@ -21,10 +21,9 @@ use Rattle.registers.specs.Places.{kept, mie, mip, hideleg}
 use Rattle.registers.specs.Rules.{among}
 use Rattle.registers.specs.Views.{View, ungated, lets, up, stored_by, no_bits}
 use Rattle.registers.proofs.Through.{through_alone}
-use Rattle.table.specs.declared.Found.{Found}
-use Rattle.table.specs.declared.Found.TheVariants.{At, Nothing}
-use Rattle.registers.specs.Registers.{count, hypervisor, machine, Register, register, registers, at}
-use Rattle.table.specs.Table.{row_of, table, first_at}
+use Rattle.registers.specs.Registers.{count, Register, register, registers, at}
+use Rattle.table.specs.declared.Row.{Row}
+use Rattle.table.specs.Table.{is_machine, is_hypervisor, row_of, table, first_at}
 use Rattle.privilege.specs.Mode.{is_vu, is_vs, is_set}
 use Rattle.privilege.specs.declared.Verdict.{Verdict}
 use Rattle.csr.specs.declared.Form.{Form}
@@ -57,7 +56,7 @@ lent v = eqb v.gate hideleg && (shared v.home && covered v)
 
 -- one computed test: a row that is neither M's nor VS's nor H's reaches no more with V=1
 abbrev test : ℕ → Register → Bool
-test i r = eqb r.level machine || (eqb r.level hypervisor || (own r.twin || lent r.twin))
+test i r = is_machine (row_of r).level || (is_hypervisor (row_of r).level || (own r.twin || lent r.twin))
 
 tested : every test 0 registers ≡ true
 unfolding every get
@@ -99,10 +98,10 @@ reached-guest h place w p v l a =
     let c = context h in
     let row = row_of (at place) in
     let t : Bool = is_set VTVM c.hstatus && is_satp row in
-    let hyp : Bool = eqb (at place).level hypervisor in
+    let hyp : Bool = is_hypervisor row.level in
     let s : is_vs c ≡ true = in_VS h.v h.privilege (passing h p).mode v (or_right (is_vs c && (t || hyp)) (is_vu c) a.not22) in
     let e₁ : hyp ≡ false = not-hypervisor (is_vs c) t hyp (is_vu c) a.not22 s in
-    let e₂ : eqb (at place).level machine ≡ false = not-machine (w && (at place).read_only) (host_lacks c row) (eqb h.v 1) _ a.not2 (eq-eqb _ _ v) in
+    let e₂ : is_machine row.level ≡ false = not-machine (w && (at place).read_only) (host_lacks c row) (eqb h.v 1) _ a.not2 (eq-eqb _ _ v) in
     rw v (reach (at place).twin (simp (e₁, e₂) at (every-at test registers (register 0 0 no_bits) tested place l)))
 
 -- what a lent view's gate lets through, in a hart that keeps so many registers
@@ -182,10 +181,10 @@ settled-keeps h own v word h' k =
     settled_cases (λ (s : Step). s.outcome ≡ Done → s.hart.privilege ≡ h.privilege) h own v word (done h') (λ r e. refl)
     (λ p cause c e. clash (cc)) (λ p o a b e. k)
 
-found-keeps : (found : Found) (h : Hart) (own : Result Unit Refusal) (form : Form) (w : ℕ) (b : Bool) (word : ℕ) → (access_found found h own form w b word).outcome ≡ Done → (access_found found h own form w b word).hart.privilege ≡ h.privilege
+found-keeps : (found : Option (ℕ × Row)) (h : Hart) (own : Result Unit Refusal) (form : Form) (w : ℕ) (b : Bool) (word : ℕ) → (access_found found h own form w b word).outcome ≡ Done → (access_found found h own form w b word).hart.privilege ≡ h.privilege
 unfolding access_row written
-found-keeps Nothing h own form w b word = settled-keeps h own _ _ h refl
-found-keeps (At place row) h own form w b word =
+found-keeps None h own form w b word = settled-keeps h own _ _ h refl
+found-keeps (Some (place, row)) h own form w b word =
     let to = reaches h place in
     settled-keeps h own _ _ (written h to (combined form (seen h to) w) b) refl
 

@@ -1,6 +1,6 @@
 -- A guest learns nothing of the host's registers: with V=1 an event comes to the same on two harts that agree on the guest and the
 -- controls. Assumes nothing.
-use Rattle.std.specs.Prelude.{Result, Ok, Err}
+use Rattle.std.specs.Prelude.{Result, Ok, Err, Option, Some, None, option_map, find}
 use mathlib.Core.Path.{◌≡◌, refl, sym, ap, subst, ◌∙◌}
 use mathlib.Core.Bool.{Bool, true, false, ◌&&◌, ◌||◌, not}
 use mathlib.Core.Logic.{◌⊎◌, ⊎_elim}
@@ -28,8 +28,6 @@ use Rattle.registers.specs.File.{Write, ◌with◌, holds}
 use Rattle.registers.proofs.Rows.{reaches-home}
 use Rattle.registers.proofs.Through.{same-through}
 use Rattle.table.specs.declared.Row.{Row}
-use Rattle.table.specs.declared.Found.{Found}
-use Rattle.table.specs.declared.Found.TheVariants.{At, Nothing}
 use Rattle.table.specs.Table.{row_of, table, first_at}
 use Rattle.table.proofs.Listed.{lookup-found}
 use Rattle.exceptions.specs.declared.Exception.{Exception}
@@ -39,9 +37,7 @@ use Rattle.traps.specs.Request.{impossible}
 use Rattle.delivery.specs.declared.Target.{Target}
 use Rattle.delivery.specs.declared.Target.TheVariants.{M, HS, VS}
 use Rattle.delivery.specs.Delivery.{target, handler, call_cause, breakpoint}
-use Rattle.interrupts.specs.declared.Due.{Due}
-use Rattle.interrupts.specs.declared.Due.TheVariants.{To, Nothing}
-use Rattle.interrupts.specs.Interrupts.{admits, due, order, first_of, chosen, interruption}
+use Rattle.interrupts.specs.Interrupts.{admits, due, levels, order, of, first_level, chosen, interruption}
 use Rattle.interrupts.specs.First.{In}
 use Rattle.interrupts.proofs.Sets.{first-same}
 use Rattle.csr.specs.declared.Form.{Form}
@@ -54,8 +50,7 @@ use Rattle.hart.specs.declared.accesses.Accessed.{Accessed}
 use Rattle.hart.specs.Hart.{reg, context, lines}
 use Rattle.hart.specs.Deliver.{writes_m, writes_hs, writes_vs, delivered_m, delivered_hs, delivered_vs, delivered_to, delivered}
 use Rattle.hart.specs.Event.{step, trapped, plain, done, unless_refused, settled_by, settled, moved, next}
-use Rattle.hart.specs.declared.event.Halt.{Halt}
-use Rattle.hart.specs.declared.event.Halt.TheVariants.{Refuses, Raises}
+use Rattle.hart.specs.declared.event.Halt.TheVariants.{Raises}
 use Rattle.hart.specs.Trap.{trap, ecall, ebreak}
 use Rattle.hart.specs.Interrupt.{taking, interrupt}
 use Rattle.hart.specs.Return.{writes_vsret, returned_vs, returned_s, mret, sret}
@@ -114,8 +109,8 @@ unfolding every
 below_64 n i = ltb-true n 64 (in_test (λ m. ltb m 64) order 0 n refl i)
 
 -- the guest's own choice
-abbrev guests : ℕ → Due
-guests n = pick (eqb n 0) Nothing (To VS n)
+abbrev guests : Option ℕ → Option (Target × ℕ)
+guests = option_map (λ n. (VS, n))
 
 same_all : (s p e d g p' e' d' g' : Bool) → g ≡ g' → (p && g) ≡ (p' && g') → (e && g) ≡ (e' && g') → (g ≡ true → d ≡ true) → (g' ≡ true → d' ≡ true)
     → (s && ((p && e) && (d && g))) ≡ (s && ((p' && e') && (d' && g')))
@@ -337,9 +332,9 @@ module _ (h h' : Hart) (a : Alike h h') where
       let g = reads to (reached-guest h place b a.left.passing a.left.v l k) in
       rw (← t, ← g.sees) (same-written to (combined form (seen h to) w) b (reaches-home place (eqb h.v 1)) g, refl))
 
-  same-found : (number : ℕ) (own : Result Unit Refusal) (found : Found) (form : Form) (w : ℕ) (b : Bool) (word : ℕ) → first_at table number 0 ≡ found → SameAccess (access_found found h own form w b word) (access_found found h' own form w b word)
-  same-found number own Nothing form w b word e = same_answer own (gives true false) (gives true false) word (done h) (done h') 0 0 refl (λ k. clash (sym k.not2))
-  same-found number own (At place row) form w b word e =
+  same-found : (number : ℕ) (own : Result Unit Refusal) (found : Option (ℕ × Row)) (form : Form) (w : ℕ) (b : Bool) (word : ℕ) → first_at table number 0 ≡ found → SameAccess (access_found found h own form w b word) (access_found found h' own form w b word)
+  same-found number own None form w b word e = same_answer own (gives true false) (gives true false) word (done h) (done h') 0 0 refl (λ k. clash (sym k.not2))
+  same-found number own (Some (place, row)) form w b word e =
       let l = lookup-found number place row e in
       subst (λ (r : Row). SameAccess (access_row h own place r form w b word) (access_row h' own place r form w b word)) (sym l.row) (same_row own place form w b word l.below)
 
@@ -350,17 +345,17 @@ module _ (h h' : Hart) (a : Alike h h') where
   -- ---- the interrupt that is due
 
   -- where none goes to the host, it is the first of the guest's own
-  guests_alone : (k : Hart) → Undisturbed k → chosen (context k) (lines k) ≡ guests (first_of (due (context k) (lines k) VS) order)
+  guests_alone : (k : Hart) → Undisturbed k → chosen (context k) (lines k) ≡ guests (find (due (context k) (lines k) VS) order)
   unfolding chosen
   guests_alone k u =
-      let at : Target → ℕ = λ to. first_of (due (context k) (lines k) to) order in
-      go (at M) (eqb (at M) 0) (at HS) (eqb (at HS) 0) (guests (at VS)) u
+      let at : Target → Option ℕ = λ to. find (due (context k) (lines k) to) order in
+      go (at M) (at HS) (at VS) u
     where
-      go : (m : ℕ) (b₁ : Bool) (hs : ℕ) (b₂ : Bool) (rest : Due) → ((to : Target) (n : ℕ) → pick b₁ (pick b₂ rest (To HS hs)) (To M m) ≡ To to n → to ≡ VS)
-          → pick b₁ (pick b₂ rest (To HS hs)) (To M m) ≡ rest
-      go m true hs true rest u = refl
-      go m true hs false rest u = let e : HS ≡ VS = u HS hs refl in clash (cc)
-      go m false hs b₂ rest u = let e : M ≡ VS = u M m refl in clash (cc)
+      go : (m hs vs : Option ℕ) → ((to : Target) (n : ℕ) → first_level (of m hs vs) levels ≡ Some (to, n) → to ≡ VS) → first_level (of m hs vs) levels ≡ guests vs
+      go (Some n) hs vs u = let e : M ≡ VS = u M n refl in clash (cc)
+      go None (Some n) vs u = let e : HS ≡ VS = u HS n refl in clash (cc)
+      go None None (Some n) u = refl
+      go None None None u = refl
 
   handed-bits : (p n : ℕ) → shared p ≡ true → (has n (reg h p) && has n (reg h hideleg)) ≡ (has n (reg h' p) && has n (reg h' hideleg))
   handed-bits p n t = sym (has-and n (reg h p) (reg h hideleg)) ∙ ap (has n) (a.handed.bits p t) ∙ has-and n (reg h' p) (reg h' hideleg)
@@ -378,9 +373,9 @@ module _ (h h' : Hart) (a : Alike h h') where
   same_chosen : Undisturbed h → Undisturbed h' → chosen (context h) (lines h) ≡ chosen (context h') (lines h')
   same_chosen u u' = guests_alone h u ∙ ap guests (first-same (due (context h) (lines h) VS) (due (context h') (lines h') VS) order same-due) ∙ sym (guests_alone h' u')
 
-  same-taking : (d : Due) → Same (taking h d) (taking h' d)
-  same-taking (To to n) = delivered-same to (interruption to n) (Interrupted n)
-  same-taking Nothing = as_they_were Done
+  same-taking : (d : Option (Target × ℕ)) → Same (taking h d) (taking h' d)
+  same-taking (Some (to, n)) = delivered-same to (interruption to n) (Interrupted n)
+  same-taking None = as_they_were Done
 
   -- ---- every event
 

@@ -1,6 +1,6 @@
 -- A hypervisor load or store makes the guest's access, and takes its faults outside the guest. Assumes nothing.
 use Rattle.std.specs.Prelude.{Ok, Err}
-use mathlib.Core.Path.{◌≡◌, refl}
+use mathlib.Core.Path.{◌≡◌, refl, sym}
 use mathlib.Core.Bool.{Bool, true, false, ◌&&◌, ◌||◌, not}
 use mathlib.Core.List.{List}
 use mathlib.Core.Logic.{◌⊎◌, inl, inr}
@@ -31,7 +31,6 @@ use Rattle.hypervisor.specs.declared.Operation.{Operation}
 use Rattle.hypervisor.specs.declared.Operation.TheVariants.{Hlv, Hlvx, Hsv}
 use Rattle.hypervisor.specs.Hypervisor.{End, kind_of, refusal_of, access_for, walk_for}
 use Rattle.hypervisor.proofs.Taken.{taken}
-use Rattle.exceptions.specs.Refusal.{number}
 use Rattle.hart.specs.declared.state.Hart.{Hart}
 use Rattle.hart.specs.declared.event.Step.{Step}
 use Rattle.hart.specs.declared.guest.Reach.{Reach}
@@ -65,7 +64,7 @@ hlvx_needs_X c p address width e = (refl, refl, refl)
 -- what a translation answers, "a fault .. delivered as a trap"
 abbrev answered : Hart → Answer → Step
 answered h (Answer.Address m) = done (moved h)
-answered h (Answer.Refused r) = refused h (number r)
+answered h (Answer.Refused r) = refused h r
 answered h (Answer.Fault f) = trapped h f
 
 abbrev there : Answer → ℕ
@@ -105,7 +104,7 @@ module _ (h : Hart) (o : Operation) (base : ℕ) (bytes : List ℕ) (width addre
       → reach h o base bytes width address word ≡ delivering h (translated (as_guest h) base bytes (kind_of o) address width)
   unfolding reach walk_for translated start_of
   translates_as same widths p m g =
-      let k = taken o base (length bytes) width (goes_own h (refusal_of o base (length bytes) width) (hypervisor_access (context h)) g) in
+      let k = taken o base (length bytes) width (goes_own h (refusal_of o base (length bytes) width) (hypervisor_access (context h)) (sym g)) in
       rw (g, guest-passes h p m, k.image, widths, k.form, ← same) (by_whole (misaligned (kind_of o) address width))
     where
       ran : Ran End

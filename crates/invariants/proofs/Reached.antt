@@ -42,7 +42,6 @@ use Rattle.hypervisor.specs.declared.Operation.{Operation}
 use Rattle.hypervisor.specs.declared.Operation.TheVariants.{Hlv, Hlvx, Hsv}
 use Rattle.hypervisor.specs.Hypervisor.{End, by_operation, kind_of, refusal_of, access_for, walk_for}
 use Rattle.hypervisor.proofs.Taken.{taken, tables_for}
-use Rattle.exceptions.specs.declared.Refusal.{Refusal}
 use Rattle.hart.specs.declared.state.Hart.{Hart}
 use Rattle.hart.specs.declared.event.Step.{Step}
 use Rattle.hart.specs.declared.event.Halt.{Halt}

@@ -6,12 +6,11 @@ use mathlib.Core.Logic.{◌⊎◌, ⊎_elim, ◌≢◌}
 use Prim.Native.Nat.{ℕ}
 use lib.Dec.{eqb}
 use lib.ListN.{length}
-use Rattle.std.specs.Prelude.{Result}
+use Rattle.std.specs.Prelude.{Result, Option, Some, None}
 use Rattle.exceptions.specs.declared.Refusal.{Refusal}
 use Rattle.bits.proofs.Bools.{clash}
 use Rattle.registers.specs.Places.{kept, medeleg, hedeleg}
-use Rattle.table.specs.declared.Found.{Found}
-use Rattle.table.specs.declared.Found.TheVariants.{At, Nothing}
+use Rattle.table.specs.declared.Row.{Row}
 use Rattle.table.specs.Table.{table, first_at}
 use Rattle.delivery.specs.declared.Target.{Target}
 use Rattle.delivery.specs.declared.Target.TheVariants.{M, HS, VS}
@@ -95,11 +94,11 @@ nowhere_else i w w' h l =
     as_it_is h = record { v = refl; privilege = refl; pc = refl; regs = λ p f. refl }
 
 -- a register access answers the same value
-found_answers : (found : Found) (h : Hart) (own : Result Unit Refusal) (form : Form) (x : ℕ) (b : Bool) (w w' : ℕ) → (access_found found h own form x b w).outcome ≡ (access_found found h own form x b w').outcome
+found_answers : (found : Option (ℕ × Row)) (h : Hart) (own : Result Unit Refusal) (form : Form) (x : ℕ) (b : Bool) (w w' : ℕ) → (access_found found h own form x b w).outcome ≡ (access_found found h own form x b w').outcome
     → (access_found found h own form x b w).value ≡ (access_found found h own form x b w').value
 unfolding access_row
-found_answers Nothing h own form x b w w' e = ap (λ (o : Outcome). value_of o 0) e
-found_answers (At place row) h own form x b w w' e = ap (λ (o : Outcome). value_of o (seen h (reaches h place))) e
+found_answers None h own form x b w w' e = ap (λ (o : Outcome). value_of o 0) e
+found_answers (Some (place, row)) h own form x b w w' e = ap (λ (o : Outcome). value_of o (seen h (reaches h place))) e
 
 pub same-value : (form : Form) (number x : ℕ) (b : Bool) (w w' : ℕ) (h : Hart) → (access h form number x b w).value ≡ (access h form number x b w').value
 unfolding run access

@@ -1,17 +1,17 @@
-use Rattle.std.proofs.Common.{sym, ◌∙◌}
+use Rattle.std.proofs.Common.{sym}
 use Rattle.hart.specs.Access.{access}
 use Rattle.table.proofs.Listed.{lookup-found}
 use Rattle.hart.proofs.control.Control.access.Goals as goal
 
 pub returns-in_default : goal.returns-in_default
 unfolding access
-returns-in_default c = rw (sym c.lookup-found.ensures ∙ c.in_default.is) (rw c.check-own.ensures at c.unlisted.ensures)
+returns-in_default c = rw (← c.in_default.ensures) (rw c.check-own.ensures at c.unlisted.ensures)
 
 pub access_row-requires : goal.access_row-requires
 access_row-requires c =
-    let l = lookup-found _ _ _ (sym c.lookup-found.ensures ∙ c.in-At.is) in
+    let l = lookup-found _ _ _ (sym c.in-Some.ensures) in
     (l.below, l.row, c.requires.0, c.requires.1)
 
 pub returns : goal.returns
 unfolding access
-returns c = rw (sym c.lookup-found.ensures ∙ c.in-At.is) (rw c.check-own.ensures at c.access_row.ensures)
+returns c = rw (← c.in-Some.ensures) (rw c.check-own.ensures at c.access_row.ensures)
