@@ -29,7 +29,7 @@ pub extern "C" fn balcumentri_trap(
         word,
         flag,
     };
-    layout::put_step(layout::hart_of(h).trap(t), h.len(), &mut *out)
+    layout::put(&layout::hart_of(h).trap(t), h.len(), &mut *out)
 }
 
 // ECALL.
@@ -37,7 +37,7 @@ pub extern "C" fn balcumentri_trap(
 pub extern "C" fn balcumentri_ecall(h: &[u64], out: &mut [u64]) -> u64
     ensures { (result, out.new) ≡ on_step ecall h.now out.old }
 {
-    layout::put_step(layout::hart_of(h).ecall(), h.len(), &mut *out)
+    layout::put(&layout::hart_of(h).ecall(), h.len(), &mut *out)
 }
 
 // EBREAK.
@@ -45,7 +45,7 @@ pub extern "C" fn balcumentri_ecall(h: &[u64], out: &mut [u64]) -> u64
 pub extern "C" fn balcumentri_ebreak(h: &[u64], out: &mut [u64]) -> u64
     ensures { (result, out.new) ≡ on_step ebreak h.now out.old }
 {
-    layout::put_step(layout::hart_of(h).ebreak(), h.len(), &mut *out)
+    layout::put(&layout::hart_of(h).ebreak(), h.len(), &mut *out)
 }
 
 // MRET.
@@ -53,7 +53,7 @@ pub extern "C" fn balcumentri_ebreak(h: &[u64], out: &mut [u64]) -> u64
 pub extern "C" fn balcumentri_mret(h: &[u64], word: u32, out: &mut [u64]) -> u64
     ensures { (result, out.new) ≡ on_step (λ (x : Hart). mret x word) h.now out.old }
 {
-    layout::put_step(layout::hart_of(h).mret(word), h.len(), &mut *out)
+    layout::put(&layout::hart_of(h).mret(word), h.len(), &mut *out)
 }
 
 // SRET.
@@ -61,7 +61,7 @@ pub extern "C" fn balcumentri_mret(h: &[u64], word: u32, out: &mut [u64]) -> u64
 pub extern "C" fn balcumentri_sret(h: &[u64], word: u32, out: &mut [u64]) -> u64
     ensures { (result, out.new) ≡ on_step (λ (x : Hart). sret x word) h.now out.old }
 {
-    layout::put_step(layout::hart_of(h).sret(word), h.len(), &mut *out)
+    layout::put(&layout::hart_of(h).sret(word), h.len(), &mut *out)
 }
 
 // WFI.
@@ -69,7 +69,7 @@ pub extern "C" fn balcumentri_sret(h: &[u64], word: u32, out: &mut [u64]) -> u64
 pub extern "C" fn balcumentri_wfi(h: &[u64], word: u32, out: &mut [u64]) -> u64
     ensures { (result, out.new) ≡ on_step (λ (x : Hart). wfi x word) h.now out.old }
 {
-    layout::put_step(layout::hart_of(h).wfi(word), h.len(), &mut *out)
+    layout::put(&layout::hart_of(h).wfi(word), h.len(), &mut *out)
 }
 
 // SFENCE.VMA.
@@ -77,7 +77,7 @@ pub extern "C" fn balcumentri_wfi(h: &[u64], word: u32, out: &mut [u64]) -> u64
 pub extern "C" fn balcumentri_sfence_vma(h: &[u64], word: u32, out: &mut [u64]) -> u64
     ensures { (result, out.new) ≡ on_step (λ (x : Hart). sfence_vma x word) h.now out.old }
 {
-    layout::put_step(layout::hart_of(h).sfence_vma(word), h.len(), &mut *out)
+    layout::put(&layout::hart_of(h).sfence_vma(word), h.len(), &mut *out)
 }
 
 // HFENCE.VVMA.
@@ -85,7 +85,7 @@ pub extern "C" fn balcumentri_sfence_vma(h: &[u64], word: u32, out: &mut [u64]) 
 pub extern "C" fn balcumentri_hfence_vvma(h: &[u64], word: u32, out: &mut [u64]) -> u64
     ensures { (result, out.new) ≡ on_step (λ (x : Hart). hfence_vvma x word) h.now out.old }
 {
-    layout::put_step(layout::hart_of(h).hfence_vvma(word), h.len(), &mut *out)
+    layout::put(&layout::hart_of(h).hfence_vvma(word), h.len(), &mut *out)
 }
 
 // HFENCE.GVMA.
@@ -93,7 +93,7 @@ pub extern "C" fn balcumentri_hfence_vvma(h: &[u64], word: u32, out: &mut [u64])
 pub extern "C" fn balcumentri_hfence_gvma(h: &[u64], word: u32, out: &mut [u64]) -> u64
     ensures { (result, out.new) ≡ on_step (λ (x : Hart). hfence_gvma x word) h.now out.old }
 {
-    layout::put_step(layout::hart_of(h).hfence_gvma(word), h.len(), &mut *out)
+    layout::put(&layout::hart_of(h).hfence_gvma(word), h.len(), &mut *out)
 }
 
 // Takes the interrupt that is due.
@@ -101,5 +101,5 @@ pub extern "C" fn balcumentri_hfence_gvma(h: &[u64], word: u32, out: &mut [u64])
 pub extern "C" fn balcumentri_interrupt(h: &[u64], out: &mut [u64]) -> u64
     ensures { (result, out.new) ≡ on_step interrupt h.now out.old }
 {
-    layout::put_step(layout::hart_of(h).interrupt(), h.len(), &mut *out)
+    layout::put(&layout::hart_of(h).interrupt(), h.len(), &mut *out)
 }

@@ -12,7 +12,7 @@ use hart::state::Hart;
 pub extern "C" fn balcumentri_reset(v: u64, privilege: u64, pc: u64, out: &mut [u64]) -> u64
     ensures { (result, out.new) ≡ put hart_size hart_size out.old (words (reset v privilege pc)) }
 {
-    layout::put_hart(Hart::reset(v, privilege, pc), layout::HART, &mut *out)
+    layout::put(&Hart::reset(v, privilege, pc), layout::HART, &mut *out)
 }
 
 // Check 2: 1 where the hart passes, else 0.
@@ -20,12 +20,5 @@ pub extern "C" fn balcumentri_reset(v: u64, privilege: u64, pc: u64, out: &mut [
 pub extern "C" fn balcumentri_passes(h: &[u64], out: &mut [u64]) -> u64
     ensures { (result, out.new) ≡ put (length h.now) 1 out.old (pick (passes (hart_of h.now)) 1 0 ∷ []) }
 {
-    if h.len() != layout::HART {
-        return 1;
-    }
-    if out.len() != 1 {
-        return 1;
-    }
-    out[0] = bits::select(layout::hart_of(h).passes(), 1, 0);
-    0
+    layout::put(&layout::hart_of(h).passes(), h.len(), &mut *out)
 }

@@ -3,9 +3,8 @@ use Rattle.std.specs.Prelude.{List, ℕ, length}
 use Rattle.bits.specs.Field.{pick}
 use Rattle.hart.specs.declared.state.Hart.{Hart}
 use Rattle.hart.specs.declared.guest.Performed.{Performed}
-use Rattle.layout.specs.Layout.{hart_of}
+use Rattle.layout.specs.Layout.{hart_of, performed_size, performed_words}
 use Rattle.layout.specs.Taken.{misfit, put}
-use Rattle.listing.specs.Listing.{performed_size, performed_words}
 
 -- a hypervisor load
 abbrev pub on_load : (Hart → Performed) → (h out : List ℕ) → ℕ × List ℕ

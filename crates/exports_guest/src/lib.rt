@@ -22,7 +22,7 @@ pub extern "C" fn balcumentri_hlv(
     ensures { (result, out.new) ≡ on_load (λ (x : Hart). hlv x base bytes.now width signed address word) h.now out.old }
 {
     let p = layout::hart_of(h).hlv(base, bytes, width, signed, address, word);
-    listing::guest::put_performed(p, h.len(), &mut *out)
+    layout::put(&p, h.len(), &mut *out)
 }
 
 // HLVX.
@@ -39,7 +39,7 @@ pub extern "C" fn balcumentri_hlvx(
     ensures { (result, out.new) ≡ on_load (λ (x : Hart). hlvx x base bytes.now width address word) h.now out.old }
 {
     let p = layout::hart_of(h).hlvx(base, bytes, width, address, word);
-    listing::guest::put_performed(p, h.len(), &mut *out)
+    layout::put(&p, h.len(), &mut *out)
 }
 
 // HSV. It stores into the image, unless it writes no result.
@@ -56,12 +56,9 @@ pub extern "C" fn balcumentri_hsv(
 ) -> u64
     ensures { (result, out.new, bytes.new) ≡ on_store (λ (x : Hart). hsv x base bytes.old width address value word) h.now bytes.old out.old }
 {
-    if h.len() != layout::HART {
-        return 1;
-    }
-    if out.len() != listing::guest::PERFORMED {
+    if layout::misfit(h.len(), out.len(), layout::guest::PERFORMED) {
         return 1;
     }
     let p = layout::hart_of(h).hsv(base, &mut *bytes, width, address, value, word);
-    listing::guest::put_performed(p, h.len(), &mut *out)
+    layout::put(&p, h.len(), &mut *out)
 }

@@ -1,5 +1,5 @@
 -- The word layout: how a hart, and what an event comes to, travel as words. (A translation's words: the crate listing.)
-use Rattle.std.specs.Prelude.{List, [], ◌∷◌, ◌++◌, ℕ, ◌+◌, eqb, length, get_or, drop, replicate}
+use Rattle.std.specs.Prelude.{List, [], ◌∷◌, ◌++◌, ℕ, ◌+◌, ◌*◌, eqb, length, get_or, drop, replicate}
 use Rattle.bits.specs.Field.{pick}
 use Rattle.exceptions.specs.Refusal.{number}
 use Rattle.registers.specs.Places.{kept}
@@ -8,6 +8,8 @@ use Rattle.hart.specs.declared.event.Outcome.{Outcome}
 use Rattle.hart.specs.declared.event.Outcome.TheVariants.{Done, Trapped, Refused, Interrupted}
 use Rattle.hart.specs.declared.event.Step.{Step}
 use Rattle.hart.specs.declared.accesses.Accessed.{Accessed}
+use Rattle.hart.specs.declared.guest.Performed.{Performed}
+use Rattle.stages.specs.Listed.{places, read_words}
 
 -- A hart: V, privilege, pc, then the registers that it keeps, each at its place.
 abbrev pub hart_size : ℕ
@@ -43,3 +45,10 @@ access_size = step_size + 1
 
 unfoldable pub access_words : Accessed → List ℕ
 access_words a = step_words (record { hart = a.hart; outcome = a.outcome }) ++ (a.value ∷ [])
+
+-- A hypervisor load's or store's result: as a register access's (the next hart, what it came to, the value answered), then the count and the list.
+abbrev pub performed_size : ℕ
+performed_size = access_size + (1 + 4 * places)
+
+unfoldable pub performed_words : Performed → List ℕ
+performed_words p = access_words (record { hart = p.hart; outcome = p.outcome; value = p.value }) ++ (p.count ∷ read_words p.reads)

@@ -18,6 +18,8 @@ use hart::event::{Outcome, Step};
 use hart::state::Hart;
 use registers::places;
 
+pub mod guest;
+
 // How many words a hart, an event's result and a register access's take.
 pub const HART: usize = 3 + places::KEPT;
 

@@ -1,8 +1,6 @@
--- The word layout of what has a list of reads: a translation, and a hypervisor load or store.
+-- The word layout of a translation.
 use Rattle.std.specs.Prelude.{List, ◌∷◌, ◌++◌, ℕ, ◌+◌, ◌-◌, ◌*◌, length, replicate}
 use Rattle.stages.specs.Listed.{places, read_words}
-use Rattle.hart.specs.declared.guest.Performed.{Performed}
-use Rattle.layout.specs.Layout.{access_size, access_words}
 use Rattle.translate.specs.declared.Answer.{Answer}
 use Rattle.translate.specs.declared.Translated.{Translated}
 use Rattle.translate.specs.Translated.{values}
@@ -27,10 +25,3 @@ translation_size = list_at + 4 * places
 
 unfoldable pub translation_words : Translated → List ℕ
 translation_words t = answer_words t.answer ++ (t.count ∷ read_words t.reads)
-
--- A hypervisor load's or store's result: as a register access's (the next hart, what it came to, the value answered), then the count and the list.
-abbrev pub performed_size : ℕ
-performed_size = access_size + (1 + 4 * places)
-
-unfoldable pub performed_words : Performed → List ℕ
-performed_words p = access_words (record { hart = p.hart; outcome = p.outcome; value = p.value }) ++ (p.count ∷ read_words p.reads)

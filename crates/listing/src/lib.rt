@@ -1,4 +1,4 @@
-// The word layout of what has a list of reads: of a translation here, the kind of access by number, the result written into a slice.
+// The word layout of a translation: the kind of access by number, the result written into a slice.
 #![tactic(auto)]
 
 ghost use Rattle.std.specs.Prelude.{◌≡◌, [], ◌∷◌, ◌++◌, length, drop};
@@ -11,8 +11,6 @@ use hart::state::Hart;
 use rules::Kind;
 use stages::PLACES;
 use translate::Answer;
-
-pub mod guest;
 
 // Where the list begins, and how many words a translation's result takes.
 const LIST_AT: usize = 7;

@@ -1,4 +1,4 @@
 use Rattle.exports.proofs.events.balcumentri_hfence_vvma.Goals as goal
 
 pub returns : goal.returns
-returns c = rw (c.put_step.ensures, c.hfence_vvma.ensures, c.hart_of.ensures)
+returns c = rw (c.put.ensures, c.hfence_vvma.ensures, c.hart_of.ensures)

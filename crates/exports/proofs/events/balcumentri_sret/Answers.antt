@@ -1,4 +1,4 @@
 use Rattle.exports.proofs.events.balcumentri_sret.Goals as goal
 
 pub returns : goal.returns
-returns c = rw (c.put_step.ensures, c.sret.ensures, c.hart_of.ensures)
+returns c = rw (c.put.ensures, c.sret.ensures, c.hart_of.ensures)

@@ -1,4 +1,4 @@
 use Rattle.exports.proofs.events.balcumentri_trap.Goals as goal
 
 pub returns : goal.returns
-returns c = rw (c.put_step.ensures, c.trap.ensures, c.hart_of.ensures)
+returns c = rw (c.put.ensures, c.trap.ensures, c.hart_of.ensures)
