@@ -20,7 +20,14 @@ fn put_reads(reads: [Read; PLACES], from: usize, out: &mut [u64])
     ensures { (out.new ≡ sets out.old from (read_words reads)) × (length reads ≡ places) }
 {
     for (i, r) in reads.iter().enumerate() {
-        second_stage::put(&mut *out, from + 4 * i, r.stage, r.level, r.address.0, r.value);
+        second_stage::put(
+            &mut *out,
+            from + 4 * i,
+            r.stage,
+            r.level,
+            r.address.0,
+            r.value,
+        );
     }
 }
 
