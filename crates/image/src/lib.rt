@@ -47,22 +47,34 @@ pub fn fetch(base: u64, bytes: &[u8], address: u64) -> Option<u64>
     None
 }
 
-// The first offset at which no entry stands.
-pub fn limit(len: u64) -> u64
-    ensures { result ≡ len - 7 }
-{
-    len.saturating_sub(7)
+// An image that a walk reads, with the first offset at which no entry stands.
+#[derive(Clone, Copy)]
+pub struct Image<'a> {
+    pub base: u64,
+    pub limit: u64,
+    pub bytes: &'a [u8],
+    pub ghost ends: { base + length bytes.now ≤ 2 ^ 56 },
+    pub ghost last: { limit ≡ length bytes.now - 7 },
 }
 
-// The entry at a machine address, by one comparison: an address below the base wraps to an offset past the limit.
-pub fn fetch_below(base: u64, limit: u64, bytes: &[u8], address: u64) -> Option<u64>
-    requires ends { base + length bytes.now ≤ 2 ^ 56 }
-    requires last { limit ≡ length bytes.now - 7 }
-    ensures { result ≡ entry base bytes.now address }
-{
-    let offset = address.wrapping_sub(base);
-    if offset < limit {
-        return Some(load(bytes, offset as usize));
+impl<'a> Image<'a> {
+    pub fn new(base: u64, bytes: &'a [u8]) -> Image<'a>
+        requires { base + length bytes.now ≤ 2 ^ 56 }
+        ensures same_base { result.base ≡ base }
+        ensures same_bytes { result.bytes.now ≡ bytes.now }
+    {
+        let limit = (bytes.len() as u64).saturating_sub(7);
+        Image { base, limit, bytes }
     }
-    None
+
+    // The entry at a machine address, by one comparison: an address below the base wraps to an offset past the limit.
+    pub fn entry(self, address: u64) -> Option<u64>
+        ensures { result ≡ entry self.entry.base self.entry.bytes.now address }
+    {
+        let offset = address.wrapping_sub(self.base);
+        if offset < self.limit {
+            return Some(load(self.bytes, offset as usize));
+        }
+        None
+    }
 }

@@ -8,6 +8,7 @@ ghost use Rattle.translate.specs.Translated.{translated};
 ghost use Rattle.listing.specs.Taken.{put_kind};
 
 use hart::state::Hart;
+use image::Image;
 use rules::Kind;
 use stages::PLACES;
 use translate::Answer;
@@ -68,12 +69,10 @@ fn translate_into(
             engine::clear(LIST_AT, TRANSLATION, &mut *out);
         }
         Ok(a) => {
-            let w = engine::walk_into(base, bytes, a, LIST_AT, &mut *out);
-            let next = w.next;
-            let reached = w.reached;
-            let count = (next - LIST_AT) / 4;
-            put_answer(Answer::from(reached), count as u64, &mut *out);
-            engine::clear(next, TRANSLATION, &mut *out);
+            let w = engine::walk_into(Image::new(base, bytes), a, LIST_AT, &mut *out);
+            let count = (w.next - LIST_AT) / 4;
+            put_answer(Answer::from(w.reached), count as u64, &mut *out);
+            engine::clear(w.next, TRANSLATION, &mut *out);
         }
     }
 }
