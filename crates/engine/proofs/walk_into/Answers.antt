@@ -49,13 +49,13 @@ returns-then-strays c =
     rw c.page_fault.ensures (astray (look a.image.base a.image.bytes.now) a.image.base (length a.image.bytes.now) a.a a.out.now a.from (sym c.strays.ensures ∙ c.if-strays.true))
 
 -- neither stage is on
-pub returns-then-left-second_tables : goal.returns-then-left-second_tables
-returns-then-left-second_tables c =
+pub returns-then-left-a : goal.returns-then-left-a
+returns-then-left-a c =
     let a = c.args in
     let f = eqb a.a.first.levels 0 in
     let s = eqb a.a.second.levels 0 in
-    let none = off (look a.image.base a.image.bytes.now) a.a a.a.first.levels c.start-guest.result a.out.now a.from (eqb-true _ _ (and_right f s c.if-left-second_tables.true)) in
-    rw (c.conclude.ensures, c.passed.ensures) (finished (arrives (begins (goal.at.returns-then-left-second_tables c).After-start-guest) none) (eqb-true _ _ (and_left f s c.if-left-second_tables.true)))
+    let none = off (look a.image.base a.image.bytes.now) a.a a.a.first.levels c.start-guest.result a.out.now a.from (eqb-true _ _ (and_right f s c.if-left-a.true)) in
+    rw (c.conclude.ensures, c.passed.ensures) (finished (arrives (begins (goal.at.returns-then-left-a c).After-start-guest) none) (eqb-true _ _ (and_left f s c.if-left-a.true)))
 
 pub loop-m-init : goal.loop-m-init
 loop-m-init c = begins (goal.at.loop-m-init c).After-start-guest
