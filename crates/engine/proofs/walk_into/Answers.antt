@@ -106,7 +106,7 @@ index-requires c = omega (arith, c.loop-m.invariant.depth, c.requires.tables.fir
 pub overflow_add-guest : goal.overflow_add-guest
 overflow_add-guest c =
     let k = (goal.at.overflow_add-guest c).In-Some in
-    omega (arith, (bounds (sees k) _ (tested k) c.in-Pointer.is).1, c.index.ensures.1)
+    omega (arith, (bounds (sees k) _ (tested k) c.in-Pointer.is).1, c.index.ensures.small)
 
 pub loop-m-smaller : goal.loop-m-smaller
 loop-m-smaller c = omega (arith, on (goal.at.loop-m-smaller c).In-Some)
@@ -115,4 +115,4 @@ pub loop-m-preserved : goal.loop-m-preserved
 loop-m-preserved c =
     let k = (goal.at.loop-m-preserved c).In-Some in
     let m = (goal.at.loop-m-preserved c).In-Ok in
-    further (reached m) (on k) (tested k) (sees k) c.in-Pointer.is c.index.ensures.0
+    further (reached m) (on k) (tested k) (sees k) c.in-Pointer.is c.index.ensures.value

@@ -15,7 +15,7 @@ overflow_sub-level c =
 pub overflow_add-q : goal.overflow_add-q
 overflow_add-q c =
     let a = c.args in
-    omega (arith, (pointer_bounds (need_for a.a a.self.entry) a.self.second a.self.guest.0 a.e _ (sym c.requires.judgement ∙ c.in-Pointer.is)).1, c.index.ensures.1)
+    omega (arith, (pointer_bounds (need_for a.a a.self.entry) a.self.second a.self.guest.0 a.e _ (sym c.requires.judgement ∙ c.in-Pointer.is)).1, c.index.ensures.small)
 
 pub returns-in-Bad : goal.returns-in-Bad
 unfolding after_second
@@ -34,4 +34,4 @@ returns-in-Pointer c =
     let high = (pointer_bounds (need_for a.a a.self.entry) a.self.second a.self.guest.0 a.e _ (sym c.requires.judgement ∙ c.in-Pointer.is)).0 in
     c.before-in-Pointer.ensures ∙ rw c.in-Pointer.is
     (ap (λ (x : ℕ). before a.base a.len a.a (position 2 a.self.first (a.self.second - 1) a.self.entry a.self.guest (machine x)))
-    (second-slot a.a a.self.entry a.self.guest (a.self.second - 1) c.in-Pointer.table c.index.result (omega (arith, high, c.requires.below)) c.index.ensures.0))
+    (second-slot a.a a.self.entry a.self.guest (a.self.second - 1) c.in-Pointer.table c.index.result (omega (arith, high, c.requires.below)) c.index.ensures.value))
