@@ -28,12 +28,8 @@ fn strays(a: Access) -> bool
     requires { Tables a }
     ensures { result ≡ strays a }
 {
-    let tables = a.first;
-    let levels = tables.levels;
-    if levels == 0 {
-        return false;
-    }
-    !rules::is_extended(levels, a.address)
+    let levels = a.first.levels;
+    levels != 0 && !rules::is_extended(levels, a.address)
 }
 
 // The first guest address: of the first stage's root entry, or the access's own.
@@ -41,13 +37,11 @@ fn start(a: Access) -> Guest
     requires { Tables a }
     ensures { result ≡ start_guest a }
 {
-    let tables = a.first;
-    let levels = tables.levels;
-    let address = a.address;
+    let levels = a.first.levels;
     if levels == 0 {
-        return Guest(address);
+        return Guest(a.address);
     }
-    Guest(tables.ppn * 4096 + 8 * rules::index(levels - 1, address))
+    Guest(a.first.ppn * 4096 + 8 * rules::index(levels - 1, a.address))
 }
 
 // The end of the walk: the whole access must lie in the image.
@@ -69,7 +63,6 @@ pub fn walk_into<'a>(image: Image<'a>, a: Access, from: usize, out: &mut [u64]) 
     let base = image.base;
     let len = image.bytes.len() as u64;
     let address = a.address;
-    let tables = a.first;
     let mut next = from;
     if strays(a) {
         return Progress {
@@ -77,11 +70,10 @@ pub fn walk_into<'a>(image: Image<'a>, a: Access, from: usize, out: &mut [u64]) 
             reached: Err(a.page_fault()),
         };
     }
-    let mut left = tables.levels;
+    let mut left = a.first.levels;
     let mut guest = start(a);
-    let second_tables = a.second;
     // neither stage is on: nothing is read, as the loop would find
-    if (left == 0) & (second_tables.levels == 0) {
+    if (left == 0) & (a.second.levels == 0) {
         return Progress {
             next,
             reached: conclude(base, len, a, passed(guest)),
@@ -91,9 +83,8 @@ pub fn walk_into<'a>(image: Image<'a>, a: Access, from: usize, out: &mut [u64]) 
     loop {
         let s = second_stage::walk(image, a, left, guest, next, &mut *out);
         next = s.next;
-        let reached = s.reached;
-        let Ok(m) = reached else {
-            return Progress { next, reached };
+        let Ok(m) = s.reached else {
+            return s;
         };
         if left == 0 {
             return Progress {
@@ -145,11 +136,9 @@ pub fn list<'a>(image: Image<'a>, a: Access, places: usize, from: usize, out: &m
     ensures { let base = image.entry.base in let bytes = image.entry.bytes.now in Written (run (look base bytes) (walk_of base (length bytes) a)) places from out.old out.new result }
 {
     let w = walk_into(image, a, from, &mut *out);
-    let next = w.next;
-    let reached = w.reached;
-    clear(next, from + 4 * places, &mut *out);
+    clear(w.next, from + 4 * places, &mut *out);
     Listed {
-        count: (next - from) / 4,
-        reached,
+        count: (w.next - from) / 4,
+        reached: w.reached,
     }
 }

@@ -63,28 +63,22 @@ impl Hart {
         ensures { result ≡ arrives self w.reached w.reads w.count }
     {
         let reads = w.reads;
-        let count = w.count;
-        let reached = w.reached;
-        match reached {
-            Ok(m) => {
-                Reach {
-                    hart: self.moved(),
-                    outcome: Outcome::Done,
-                    at: m.0,
-                    reads,
-                    count,
-                }
-            }
+        match w.reached {
+            Ok(m) => Reach {
+                hart: self.moved(),
+                outcome: Outcome::Done,
+                at: m.0,
+                reads,
+                count: w.count,
+            },
             Err(f) => {
                 let s = self.take_trap(f);
-                let hart = s.hart;
-                let outcome = s.outcome;
                 Reach {
-                    hart,
-                    outcome,
+                    hart: s.hart,
+                    outcome: s.outcome,
                     at: 0,
                     reads,
-                    count,
+                    count: w.count,
                 }
             }
         }

@@ -62,8 +62,7 @@ fn translate_into(
     requires { length out.old ≡ translation_size }
     ensures { out.new ≡ translation_words (translated h base bytes.now kind address width) }
 {
-    let s = translate::starts(h, base, bytes.len() as u64, kind, address, width);
-    match s {
+    match translate::starts(h, base, bytes.len() as u64, kind, address, width) {
         Err(x) => {
             put_answer(x, 0, &mut *out);
             engine::clear(LIST_AT, TRANSLATION, &mut *out);

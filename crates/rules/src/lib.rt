@@ -156,7 +156,8 @@ impl Test {
 // The index at a level: nine bits of an address.
 pub fn index(level: u64, address: u64) -> u64
     requires { level < 5 }
-    ensures { (result ≡ get (index_bits 9 level) address) × (result < 512) }
+    ensures value { result ≡ get (index_bits 9 level) address }
+    ensures small { result < 512 }
 {
     let nine = Field {
         low: 12 + 9 * level,
@@ -177,7 +178,8 @@ pub fn is_extended(levels: u64, address: u64) -> bool
 
 // The second stage's test of an address's high bits: none stands above the eleven of the root's index.
 pub fn is_small(levels: u64, address: u64) -> bool
-    requires { (0 < levels) × (levels ≤ 5) }
+    requires some { 0 < levels }
+    requires few { levels ≤ 5 }
     ensures { result ≡ well_formed Stage.second levels address }
 {
     address >> (12 + 9 * (levels - 1)) < 2048
@@ -185,8 +187,11 @@ pub fn is_small(levels: u64, address: u64) -> bool
 
 // The index at the second stage's root, a table of 16 KiB: all bits from there up, where the address passes that test.
 pub fn root_index(levels: u64, address: u64) -> u64
-    requires { (0 < levels) × (levels ≤ 5) × (well_formed Stage.second levels address ≡ true) }
-    ensures { (result ≡ index Stage.second levels (levels - 1) address) × (result < 2048) }
+    requires some { 0 < levels }
+    requires few { levels ≤ 5 }
+    requires small { well_formed Stage.second levels address ≡ true }
+    ensures value { result ≡ index Stage.second levels (levels - 1) address }
+    ensures small { result < 2048 }
 {
     address >> (12 + 9 * (levels - 1))
 }

@@ -90,8 +90,7 @@ pub fn walk<'a>(
     requires room { from + 4 * a.second.levels ≤ length out.old }
     ensures { onto out.new result.next result.reached ≡ into (look image.entry.base image.entry.bytes.now) (translation (second_at a left guest)) out.old from }
 {
-    let tables = a.second;
-    let levels = tables.levels;
+    let levels = a.second.levels;
     let address = guest.0;
     let mut next = from;
     if levels == 0 {
@@ -108,7 +107,7 @@ pub fn walk<'a>(
     }
     let t = test(a, left);
     let mut level = levels - 1;
-    let mut at = tables.ppn * 4096 + 8 * rules::root_index(levels, address);
+    let mut at = a.second.ppn * 4096 + 8 * rules::root_index(levels, address);
     loop {
         let seen = inspect(image, t, 2, level, address, Machine(at), next, &mut *out);
         let Some(j) = seen else {

@@ -108,8 +108,7 @@ pub fn translate(
 ) -> Translated
     ensures { result ≡ translated h base bytes.now kind address width }
 {
-    let s = starts(h, base, bytes.len() as u64, kind, address, width);
-    match s {
+    match starts(h, base, bytes.len() as u64, kind, address, width) {
         Err(x) => Translated {
             hart: h,
             answer: x,
@@ -119,10 +118,9 @@ pub fn translate(
         Ok(a) => {
             let w = walk::walk(base, bytes, a);
             let reads = w.reads;
-            let reached = w.reached;
             Translated {
                 hart: h,
-                answer: Answer::from(reached),
+                answer: Answer::from(w.reached),
                 reads,
                 count: w.count,
             }

@@ -30,9 +30,7 @@ pub struct Request {
 pub fn translate_at(base: u64, bytes: &[u8], r: Request) -> Translated
     ensures { result ≡ translation base bytes.now r }
 {
-    let h = r.hart;
-    let kind = r.kind;
-    translate::translate(h, base, bytes, kind, r.address, r.width)
+    translate::translate(r.hart, base, bytes, r.kind, r.address, r.width)
 }
 
 // The translation of an access over a window.

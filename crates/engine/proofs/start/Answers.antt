@@ -8,4 +8,4 @@ returns-then-levels-eq0 c = simp (eq-eqb _ _ c.if-levels-eq0.true)
 
 pub returns : goal.returns
 unfolding start_guest
-returns c = simp (ne_eqb _ _ c.if-levels-eq0.false, c.index.ensures.0)
+returns c = simp (ne_eqb _ _ c.if-levels-eq0.false, c.index.ensures.value)

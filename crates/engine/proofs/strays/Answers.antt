@@ -2,10 +2,10 @@ use borrow.Author.Tests.{eq-eqb, ne_eqb}
 use Rattle.engine.specs.Place.{strays}
 use Rattle.engine.proofs.strays.Goals as goal
 
-pub returns-then-levels-eq0 : goal.returns-then-levels-eq0
+pub returns-then-levels-ne0 : goal.returns-then-levels-ne0
 unfolding strays
-returns-then-levels-eq0 c = simp (eq-eqb _ _ c.if-levels-eq0.true)
+returns-then-levels-ne0 c = simp (ne_eqb _ _ c.if-levels-ne0.true, c.is_extended.ensures)
 
-pub returns : goal.returns
+pub returns-else-levels-ne0 : goal.returns-else-levels-ne0
 unfolding strays
-returns c = simp (ne_eqb _ _ c.if-levels-eq0.false, c.is_extended.ensures)
+returns-else-levels-ne0 c = simp (eq-eqb _ _ c.if-levels-ne0.false)

@@ -49,13 +49,13 @@ returns-then-strays c =
     rw c.page_fault.ensures (astray (look a.image.base a.image.bytes.now) a.image.base (length a.image.bytes.now) a.a a.out.now a.from (sym c.strays.ensures ∙ c.if-strays.true))
 
 -- neither stage is on
-pub returns-then-left-second_tables : goal.returns-then-left-second_tables
-returns-then-left-second_tables c =
+pub returns-then-left-a : goal.returns-then-left-a
+returns-then-left-a c =
     let a = c.args in
     let f = eqb a.a.first.levels 0 in
     let s = eqb a.a.second.levels 0 in
-    let none = off (look a.image.base a.image.bytes.now) a.a a.a.first.levels c.start-guest.result a.out.now a.from (eqb-true _ _ (and_right f s c.if-left-second_tables.true)) in
-    rw (c.conclude.ensures, c.passed.ensures) (finished (arrives (begins (goal.at.returns-then-left-second_tables c).After-start-guest) none) (eqb-true _ _ (and_left f s c.if-left-second_tables.true)))
+    let none = off (look a.image.base a.image.bytes.now) a.a a.a.first.levels c.start-guest.result a.out.now a.from (eqb-true _ _ (and_right f s c.if-left-a.true)) in
+    rw (c.conclude.ensures, c.passed.ensures) (finished (arrives (begins (goal.at.returns-then-left-a c).After-start-guest) none) (eqb-true _ _ (and_left f s c.if-left-a.true)))
 
 pub loop-m-init : goal.loop-m-init
 loop-m-init c = begins (goal.at.loop-m-init c).After-start-guest
@@ -106,7 +106,7 @@ index-requires c = omega (arith, c.loop-m.invariant.depth, c.requires.tables.fir
 pub overflow_add-guest : goal.overflow_add-guest
 overflow_add-guest c =
     let k = (goal.at.overflow_add-guest c).In-Some in
-    omega (arith, (bounds (sees k) _ (tested k) c.in-Pointer.is).1, c.index.ensures.1)
+    omega (arith, (bounds (sees k) _ (tested k) c.in-Pointer.is).1, c.index.ensures.small)
 
 pub loop-m-smaller : goal.loop-m-smaller
 loop-m-smaller c = omega (arith, on (goal.at.loop-m-smaller c).In-Some)
@@ -115,4 +115,4 @@ pub loop-m-preserved : goal.loop-m-preserved
 loop-m-preserved c =
     let k = (goal.at.loop-m-preserved c).In-Some in
     let m = (goal.at.loop-m-preserved c).In-Ok in
-    further (reached m) (on k) (tested k) (sees k) c.in-Pointer.is c.index.ensures.0
+    further (reached m) (on k) (tested k) (sees k) c.in-Pointer.is c.index.ensures.value

@@ -22,7 +22,7 @@ use Rattle.listing.proofs.translate_into.Goals as goal
 starts-walk : (w : After-walk_into-w) → let a = w.args in Walking a.h a.base a.bytes.now a.kind a.address a.width w.in-Ok.a
 starts-walk w =
     let a = w.args in
-    walking a.h a.base a.bytes.now a.kind a.address a.width _ (sym w.starts-s.ensures ∙ w.in-Ok.is)
+    walking a.h a.base a.bytes.now a.kind a.address a.width _ (sym w.starts.ensures ∙ w.in-Ok.is)
 
 abbrev ran : After-walk_into-w → Ran (Result Machine Exception)
 ran w = let a = w.args in run (look a.base a.bytes.now) (walk_of a.base (length a.bytes.now) w.in-Ok.a)
@@ -48,12 +48,12 @@ clear-requires c =
     record { order = omega arith; fits = omega (arith, ap length c.put_answer.ensures ∙ answer-length c.in-Err.x 0 a.out.now (omega arith)) }
 
 pub new-requires : goal.new-requires
-new-requires c = let a = c.args in (walking a.h a.base a.bytes.now a.kind a.address a.width _ (sym c.starts-s.ensures ∙ c.in-Ok.is)).ends
+new-requires c = let a = c.args in (walking a.h a.base a.bytes.now a.kind a.address a.width _ (sym c.starts.ensures ∙ c.in-Ok.is)).ends
 
 pub walk_into-w-requires : goal.walk_into-w-requires
 walk_into-w-requires c =
     let a = c.args in
-    let w = walking a.h a.base a.bytes.now a.kind a.address a.width _ (sym c.starts-s.ensures ∙ c.in-Ok.is) in
+    let w = walking a.h a.base a.bytes.now a.kind a.address a.width _ (sym c.starts.ensures ∙ c.in-Ok.is) in
     record { tables = w.tables; room = omega (arith, enough c.in-Ok.a w.tables) }
 
 pub overflow_sub-count : goal.overflow_sub-count
@@ -75,7 +75,7 @@ unfolding translation_words
 returns-in-Err c =
     let a = c.args in
     let x = c.in-Err.x in
-    rw (at_once a.h a.base a.bytes.now a.kind a.address a.width x (sym c.starts-s.ensures ∙ c.in-Err.is), c.clear.ensures, c.put_answer.ensures)
+    rw (at_once a.h a.base a.bytes.now a.kind a.address a.width x (sym c.starts.ensures ∙ c.in-Err.is), c.clear.ensures, c.put_answer.ensures)
     (closed x a.out.now [] c.requires zero-le)
 
 pub returns-in-Ok : goal.returns-in-Ok

@@ -6,5 +6,6 @@ use Rattle.rules.proofs.root_index.Goals as goal
 
 pub returns : goal.returns
 returns c =
-    let h = ltb-true _ _ (small-code c.args.levels c.args.address c.requires.0 c.requires.1 (search rules) ∙ c.requires.2) in
-    (root-code c.args.levels c.args.address c.requires.0 c.requires.1 (search rules) h, h)
+    let p = c.requires in
+    let h = ltb-true _ _ (small-code c.args.levels c.args.address p.some p.few (search rules) ∙ p.small) in
+    record { value = root-code c.args.levels c.args.address p.some p.few (search rules) h; small = h }

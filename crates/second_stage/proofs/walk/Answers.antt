@@ -24,13 +24,13 @@ returns-then-not-is_small c =
     (too_large (look a.image.base a.image.bytes.now) a.a a.left a.guest a.out.now a.from (omega (arith, c.if-levels-eq0.false)) (sym c.is_small.ensures ∙ c.if-not-is_small.true))
 
 pub root_index-requires : goal.root_index-requires
-root_index-requires c = (omega (arith, c.if-levels-eq0.false), c.requires.tables.second, sym c.is_small.ensures ∙ c.if-not-is_small.false)
+root_index-requires c = record { some = omega (arith, c.if-levels-eq0.false); few = c.requires.tables.second; small = sym c.is_small.ensures ∙ c.if-not-is_small.false }
 
 pub loop-j-init : goal.loop-j-init
 loop-j-init c =
     let a = c.args in
     from-root (look a.image.base a.image.bytes.now) a.a a.left a.guest a.out.now a.from (omega (arith, c.if-levels-eq0.false))
-    (sym c.is_small.ensures ∙ c.if-not-is_small.false) c.requires.room c.root_index.result c.root_index.ensures.0
+    (sym c.is_small.ensures ∙ c.if-not-is_small.false) c.requires.room c.root_index.result c.root_index.ensures.value
 
 pub inspect-seen-requires : goal.inspect-seen-requires
 inspect-seen-requires c =
@@ -55,10 +55,10 @@ pub index-requires : goal.index-requires
 index-requires c = omega (arith, c.loop-j.invariant.under, c.requires.tables.second)
 
 pub overflow_add-at-in-Pointer : goal.overflow_add-at-in-Pointer
-overflow_add-at-in-Pointer c = omega (arith, (bounds (sees (goal.at.overflow_add-at-in-Pointer c).In-Some) _ c.test-t.ensures c.in-Pointer.is).1, c.index.ensures.1)
+overflow_add-at-in-Pointer c = omega (arith, (bounds (sees (goal.at.overflow_add-at-in-Pointer c).In-Some) _ c.test-t.ensures c.in-Pointer.is).1, c.index.ensures.small)
 
 pub loop-j-smaller : goal.loop-j-smaller
 loop-j-smaller c = omega (arith, (bounds (sees (goal.at.loop-j-smaller c).In-Some) _ c.test-t.ensures c.in-Pointer.is).0)
 
 pub loop-j-preserved : goal.loop-j-preserved
-loop-j-preserved c = further c.loop-j.invariant c.test-t.ensures (sees (goal.at.loop-j-preserved c).In-Some) c.in-Pointer.is c.index.ensures.0
+loop-j-preserved c = further c.loop-j.invariant c.test-t.ensures (sees (goal.at.loop-j-preserved c).In-Some) c.in-Pointer.is c.index.ensures.value

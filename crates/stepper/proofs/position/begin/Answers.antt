@@ -20,4 +20,4 @@ pub returns : goal.returns
 returns c =
     let a = c.args in
     c.enter-2.ensures ∙ sym (from-root a.base a.len a.a a.a.first.levels c.index.result (omega (arith, c.if-levels-eq0.false))
-    (sym c.is_extended.ensures ∙ c.if-not-is_extended.false) c.index.ensures.0)
+    (sym c.is_extended.ensures ∙ c.if-not-is_extended.false) c.index.ensures.value)

@@ -20,10 +20,10 @@ returns-then-not-is_small c =
 
 pub root_index-requires : goal.root_index-requires
 root_index-requires c =
-    (omega (arith, c.if-levels-eq0.false), c.requires.second, sym c.is_small.ensures ∙ c.if-not-is_small.false)
+    record { some = omega (arith, c.if-levels-eq0.false); few = c.requires.second; small = sym c.is_small.ensures ∙ c.if-not-is_small.false }
 
 pub returns : goal.returns
 returns c =
     let a = c.args in
     c.before-2.ensures ∙ sym (onto-root a.base a.len a.a a.first a.entry a.guest a.a.second.levels c.root_index.result (omega (arith, c.if-levels-eq0.false))
-    (sym c.is_small.ensures ∙ c.if-not-is_small.false) c.root_index.ensures.0)
+    (sym c.is_small.ensures ∙ c.if-not-is_small.false) c.root_index.ensures.value)

@@ -12,12 +12,12 @@ use Rattle.stepper.proofs.position.Position.after_first.Goals as goal
 pub overflow_sub-level : goal.overflow_sub-level
 overflow_sub-level c =
     let a = c.args in
-    omega (arith, (pointer_bounds (first_need a.a) a.self.first a.a.address a.e _ (sym c.requires.2 ∙ c.in-Pointer.is)).0)
+    omega (arith, (pointer_bounds (first_need a.a) a.self.first a.a.address a.e _ (sym c.requires.judgement ∙ c.in-Pointer.is)).0)
 
 pub overflow_add-at : goal.overflow_add-at
 overflow_add-at c =
     let a = c.args in
-    omega (arith, (pointer_bounds (first_need a.a) a.self.first a.a.address a.e _ (sym c.requires.2 ∙ c.in-Pointer.is)).1, c.index.ensures.1)
+    omega (arith, (pointer_bounds (first_need a.a) a.self.first a.a.address a.e _ (sym c.requires.judgement ∙ c.in-Pointer.is)).1, c.index.ensures.small)
 
 pub returns-in-Bad : goal.returns-in-Bad
 unfolding after_first
@@ -32,4 +32,4 @@ unfolding after_first
 returns-in-Pointer c =
     let a = c.args in
     c.enter-in-Pointer.ensures ∙ rw c.in-Pointer.is
-    (ap (λ (x : ℕ). enters a.base a.len a.a (a.self.first - 1) true (guest x)) (first_slot a.a (a.self.first - 1) c.in-Pointer.table c.index.result c.index.ensures.0))
+    (ap (λ (x : ℕ). enters a.base a.len a.a (a.self.first - 1) true (guest x)) (first_slot a.a (a.self.first - 1) c.in-Pointer.table c.index.result c.index.ensures.value))
