@@ -59,7 +59,9 @@ impl Control {
         writes: bool,
         regs: &mut [u64],
     ) -> Answer
-        requires { (at.home < kept) × (at.shift < 64) × (length regs.old ≡ kept) }
+        requires home { at.home < kept }
+        requires shift { at.shift < 64 }
+        requires whole { length regs.old ≡ kept }
         ensures { accessed_on result regs.new ≡ goes (on self regs.old) (view_of at mask) form w writes }
     {
         let home = at.home;
@@ -104,7 +106,10 @@ impl Control {
         word: u32,
         regs: &mut [u64],
     ) -> Answer
-        requires { (place < count) × (row ≡ row_of (at place)) × (length regs.old ≡ kept) × (passed ≡ passes (on self regs.old)) }
+        requires listed { place < count }
+        requires stands { row ≡ row_of (at place) }
+        requires whole { length regs.old ≡ kept }
+        requires checked { passed ≡ passes (on self regs.old) }
         ensures { accessed_on result regs.new ≡ access_row (on self regs.old) own place row form w writes word }
     {
         let verdict = csr::verdict(self.context(&*regs), row, writes);
@@ -119,7 +124,8 @@ impl Control {
 
     // An access to a number that no register has.
     fn unlisted(self, passed: bool, own: Result<(), Refusal>, word: u32, regs: &mut [u64]) -> Answer
-        requires { (length regs.old ≡ kept) × (passed ≡ passes (on self regs.old)) }
+        requires whole { length regs.old ≡ kept }
+        requires checked { passed ≡ passes (on self regs.old) }
         ensures { accessed_on result regs.new ≡ unlisted (on self regs.old) own word }
     {
         let verdict = Verdict {
@@ -149,7 +155,8 @@ impl Control {
         word: u32,
         regs: &mut [u64],
     ) -> Answer
-        requires { (length regs.old ≡ kept) × (passed ≡ passes (on self regs.old)) }
+        requires whole { length regs.old ≡ kept }
+        requires checked { passed ≡ passes (on self regs.old) }
         ensures { accessed_on result regs.new ≡ access (on self regs.old) form number w writes word }
     {
         let own = csr::check(number);

@@ -101,12 +101,7 @@ impl Outcome {
     pub fn is_done(self) -> bool
         ensures { result ≡ is_done self }
     {
-        match self {
-            Outcome::Done => true,
-            Outcome::Trapped(_) => false,
-            Outcome::Refused(_) => false,
-            Outcome::Interrupted(_) => false,
-        }
+        matches!(self, Outcome::Done)
     }
 }
 
@@ -168,13 +163,6 @@ impl Hart {
         }
     }
 
-    // Whether it goes on, with its own refusal and the verdict on its instruction.
-    pub fn stops(self, own: Result<(), Refusal>, verdict: Verdict) -> Result<(), Halt>
-        ensures { result ≡ stop_of self own verdict }
-    {
-        stops(self.passes(), own, verdict)
-    }
-
     // An event that does not go on.
     pub fn halt(self, halt: Halt, word: u32) -> Step
         ensures { result ≡ halted self halt word }
@@ -201,7 +189,7 @@ impl Hart {
         requires { stop_of self own verdict ≡ Ok tt → F.pre finish self }
         ensures { (finished : Step) → Gives (F.post finish self) finished → result ≡ settled self own verdict word finished }
     {
-        match self.stops(own, verdict) {
+        match stops(self.passes(), own, verdict) {
             Ok(()) => finish(self),
             Err(halt) => self.halt(halt, word),
         }
