@@ -37,8 +37,7 @@ pub struct Answer {
 }
 
 // The bits that a register's gate lets through.
-fn gate(at: Kept, regs: &[u64]) -> u64
-    requires { length regs.now ≡ kept }
+fn gate(at: Kept, regs: &[u64; places::KEPT]) -> u64
     ensures { result ≡ lets regs.now (view_of at 0) }
 {
     let gate = at.gate;
@@ -57,11 +56,10 @@ impl Control {
         form: Form,
         w: u64,
         writes: bool,
-        regs: &mut [u64],
+        regs: &mut [u64; places::KEPT],
     ) -> Answer
         requires home { at.home < kept }
         requires shift { at.shift < 64 }
-        requires whole { length regs.old ≡ kept }
         ensures { accessed_on result regs.new ≡ goes (on self regs.old) (view_of at mask) form w writes }
     {
         let home = at.home;
@@ -79,8 +77,7 @@ impl Control {
     }
 
     // One that halts, and answers 0.
-    fn answer_halt(self, halt: Halt, word: u32, regs: &mut [u64]) -> Answer
-        requires { length regs.old ≡ kept }
+    fn answer_halt(self, halt: Halt, word: u32, regs: &mut [u64; places::KEPT]) -> Answer
         ensures { accessed_on result regs.new ≡ answer (halted (on self regs.old) halt word) 0 }
     {
         let e = self.halt(halt, word, &mut *regs);
@@ -104,11 +101,10 @@ impl Control {
         w: u64,
         writes: bool,
         word: u32,
-        regs: &mut [u64],
+        regs: &mut [u64; places::KEPT],
     ) -> Answer
         requires listed { place < count }
         requires stands { row ≡ row_of (at place) }
-        requires whole { length regs.old ≡ kept }
         requires checked { passed ≡ passes (on self regs.old) }
         ensures { accessed_on result regs.new ≡ access_row (on self regs.old) own place row form w writes word }
     {
@@ -123,9 +119,14 @@ impl Control {
     }
 
     // An access to a number that no register has.
-    fn unlisted(self, passed: bool, own: Result<(), Refusal>, word: u32, regs: &mut [u64]) -> Answer
-        requires whole { length regs.old ≡ kept }
-        requires checked { passed ≡ passes (on self regs.old) }
+    fn unlisted(
+        self,
+        passed: bool,
+        own: Result<(), Refusal>,
+        word: u32,
+        regs: &mut [u64; places::KEPT],
+    ) -> Answer
+        requires { passed ≡ passes (on self regs.old) }
         ensures { accessed_on result regs.new ≡ unlisted (on self regs.old) own word }
     {
         let verdict = Verdict {
@@ -153,10 +154,9 @@ impl Control {
         w: u64,
         writes: bool,
         word: u32,
-        regs: &mut [u64],
+        regs: &mut [u64; places::KEPT],
     ) -> Answer
-        requires whole { length regs.old ≡ kept }
-        requires checked { passed ≡ passes (on self regs.old) }
+        requires { passed ≡ passes (on self regs.old) }
         ensures { accessed_on result regs.new ≡ access (on self regs.old) form number w writes word }
     {
         let own = csr::check(number);

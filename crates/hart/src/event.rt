@@ -121,8 +121,7 @@ impl Ended {
 
 impl Control {
     // The trap is delivered.
-    fn take_trap(self, t: Exception, regs: &mut [u64]) -> Ended
-        requires { length regs.old ≡ kept }
+    fn take_trap(self, t: Exception, regs: &mut [u64; places::KEPT]) -> Ended
         ensures { step_on result regs.new ≡ trapped (on self regs.old) t }
     {
         let cause = t.cause;
@@ -134,8 +133,7 @@ impl Control {
     }
 
     // An event that does not go on: it is refused, or raises a cause with its instruction word.
-    pub fn halt(self, halt: Halt, word: u32, regs: &mut [u64]) -> Ended
-        requires { length regs.old ≡ kept }
+    pub fn halt(self, halt: Halt, word: u32, regs: &mut [u64; places::KEPT]) -> Ended
         ensures { step_on result regs.new ≡ halted (on self regs.old) halt word }
     {
         match halt {

@@ -10,7 +10,7 @@ returns-in_default c = rw (← c.in_default.ensures) (rw c.check-own.ensures at 
 pub access_row-requires : goal.access_row-requires
 access_row-requires c =
     let l = lookup-found _ _ _ (sym c.in-Some.ensures) in
-    record { listed = l.below; stands = l.row; whole = c.requires.whole; checked = c.requires.checked }
+    record { listed = l.below; stands = l.row; checked = c.requires }
 
 pub returns : goal.returns
 unfolding access

@@ -11,7 +11,7 @@ use Rattle.hart.proofs.control.Control.access_row.Goals as goal
 pub goes-requires : goal.goes-requires
 goes-requires c =
     let a = c.args in
-    rw c.reach-to.ensures (record { home = reaches-home a.place (eqb a.self.v 1); shift = reaches-shift a.place (eqb a.self.v 1); whole = c.requires.whole })
+    rw c.reach-to.ensures (record { home = reaches-home a.place (eqb a.self.v 1); shift = reaches-shift a.place (eqb a.self.v 1) })
 
 pub returns-in-Ok : goal.returns-in-Ok
 unfolding access_row
