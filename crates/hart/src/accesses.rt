@@ -154,16 +154,18 @@ impl Control {
         w: u64,
         writes: bool,
         word: u32,
-        regs: &mut [u64; places::KEPT],
+        regs: &mut [u64],
     ) -> Answer
-        requires { passed ≡ passes (on self regs.old) }
+        requires whole { length regs.old ≡ kept }
+        requires checked { passed ≡ passes (on self regs.old) }
         ensures { accessed_on result regs.new ≡ access (on self regs.old) form number w writes word }
     {
         let own = csr::check(number);
+        let regs = regs.as_mut_array().unwrap();
         let Some((place, row)) = table::lookup(number) else {
-            return self.unlisted(passed, own, word, &mut *regs);
+            return self.unlisted(passed, own, word, regs);
         };
-        self.access_row(passed, own, place, row, form, w, writes, word, &mut *regs)
+        self.access_row(passed, own, place, row, form, w, writes, word, regs)
     }
 }
 

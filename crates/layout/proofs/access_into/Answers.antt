@@ -29,7 +29,7 @@ returns-then-out-ne-ACCESS c = rw (out_wrong _ _ access_size c.if-h-ne-HART.fals
 pub access-answer-requires : goal.access-answer-requires
 access-answer-requires c =
     let regs = lent c.args.h.now c.args.out.now c.if-h-ne-HART.false (omega arith) in
-    rw (c.put_words.ensures, regs) (simp length-drop (omega (arith, c.if-h-ne-HART.false)), c.passes-passed.ensures ∙ ap passes (c.hart_of.ensures ∙ sym c.control_of-from.ensures))
+    rw (c.put_words.ensures, regs) (record { whole = simp length-drop (omega (arith, c.if-h-ne-HART.false)); checked = c.passes-passed.ensures ∙ ap passes (c.hart_of.ensures ∙ sym c.control_of-from.ensures) })
 
 pub put_around-requires : goal.put_around-requires
 put_around-requires c = omega (arith, still-fits (goal.at.put_around-requires c).After-access-answer)
