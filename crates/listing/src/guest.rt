@@ -19,12 +19,15 @@ fn put_reads(reads: [Read; PLACES], from: usize, out: &mut [u64])
     requires { from + 4 * places ≤ length out.old }
     ensures { (out.new ≡ sets out.old from (read_words reads)) × (length reads ≡ places) }
 {
-    let mut i: usize = 0;
-    while i < PLACES {
-        let r = reads[i];
-        let at = r.address;
-        second_stage::put(&mut *out, from + 4 * i, r.stage, r.level, at.0, r.value);
-        i += 1;
+    for (i, r) in reads.iter().enumerate() {
+        second_stage::put(
+            &mut *out,
+            from + 4 * i,
+            r.stage,
+            r.level,
+            r.address.0,
+            r.value,
+        );
     }
 }
 
@@ -39,16 +42,12 @@ pub fn put_performed(p: Performed, given: usize, out: &mut [u64]) -> u64
     if out.len() != PERFORMED {
         return 1;
     }
-    let hart = p.hart;
-    let outcome = p.outcome;
-    let value = p.value;
-    let reads = p.reads;
     out[layout::ACCESS] = p.count as u64;
-    put_reads(reads, LIST_AT, &mut *out);
+    put_reads(p.reads, LIST_AT, &mut *out);
     let accessed = Accessed {
-        hart,
-        outcome,
-        value,
+        hart: p.hart,
+        outcome: p.outcome,
+        value: p.value,
     };
     layout::put_access(accessed, given, &mut out[..layout::ACCESS])
 }

@@ -113,10 +113,13 @@ impl Place {
     fn access(self) -> Access
         ensures { result ≡ access_at self }
     {
-        let context = self.context;
-        let paging = self.paging;
-        let kind = self.kind;
-        effective::access(context, paging, kind, self.address, self.width)
+        effective::access(
+            self.context,
+            self.paging,
+            self.kind,
+            self.address,
+            self.width,
+        )
     }
 
     // Whether a press on an image is refused, and as what.
@@ -126,10 +129,8 @@ impl Place {
         if image::refused(base, len) {
             return Err(Refusal::Image);
         }
-        let state = self.state;
-        let count = self.count;
-        let bad = is_unfinished_badly(self.access(), count, state);
-        if !(base == self.base) | !(len == self.length) | (PLACES < count) | bad {
+        let bad = is_unfinished_badly(self.access(), self.count, self.state);
+        if !(base == self.base) | !(len == self.length) | (PLACES < self.count) | bad {
             return Err(Refusal::Place);
         }
         Ok(())
@@ -139,26 +140,18 @@ impl Place {
     fn moved(self, state: State, reads: [Read; PLACES], count: usize) -> Place
         ensures { result ≡ moved self state reads count }
     {
-        let kind = self.kind;
-        let context = self.context;
-        let paging = self.paging;
         Place {
-            base: self.base,
-            length: self.length,
-            kind,
-            address: self.address,
-            width: self.width,
-            context,
-            paging,
             state,
             reads,
             count,
+            ..self
         }
     }
 
     // The one entry: read, listed and shown, and on from it.
     fn turn(self, bytes: &[u8], q: Position) -> Pressed
-        requires { (self.count < places) × (misplaced (access_at self) q ≡ false) }
+        requires room { self.count < places }
+        requires placed { misplaced (access_at self) q ≡ false }
         ensures { result ≡ turned self q (look self.base bytes.now q.at) }
     {
         let a = self.access();
@@ -199,8 +192,7 @@ impl Place {
                 told: Told::Refused(refusal),
             };
         }
-        let state = self.state;
-        match state {
+        match self.state {
             State::Ended(x) => Pressed {
                 place: self,
                 shown: None,

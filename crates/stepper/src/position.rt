@@ -36,8 +36,7 @@ fn enter(base: u64, len: u64, a: Access, first: u64, entry: bool, guest: Guest) 
     requires { Tables a }
     ensures { result ≡ enters base len a first entry guest }
 {
-    let tables = a.second;
-    let levels = tables.levels;
+    let levels = a.second.levels;
     let address = guest.0;
     if levels == 0 {
         let q = Position {
@@ -60,7 +59,7 @@ fn enter(base: u64, len: u64, a: Access, first: u64, entry: bool, guest: Guest) 
         second: levels - 1,
         entry,
         guest,
-        at: Machine(tables.ppn * 4096 + 8 * rules::root_index(levels, address)),
+        at: Machine(a.second.ppn * 4096 + 8 * rules::root_index(levels, address)),
     };
     q.before(base, len, a)
 }
@@ -70,8 +69,7 @@ pub fn begin(base: u64, len: u64, a: Access) -> State
     requires { Tables a }
     ensures { result ≡ begins base len a }
 {
-    let tables = a.first;
-    let levels = tables.levels;
+    let levels = a.first.levels;
     let address = a.address;
     if levels == 0 {
         return enter(base, len, a, 0, false, Guest(address));
@@ -79,7 +77,7 @@ pub fn begin(base: u64, len: u64, a: Access) -> State
     if !rules::is_extended(levels, address) {
         return State::Ended(Answer::Fault(a.page_fault()));
     }
-    let at = Guest(tables.ppn * 4096 + 8 * rules::index(levels - 1, address));
+    let at = Guest(a.first.ppn * 4096 + 8 * rules::index(levels - 1, address));
     enter(base, len, a, levels - 1, true, at)
 }
 
@@ -88,13 +86,11 @@ impl Position {
     pub fn is_misplaced(self, a: Access) -> bool
         ensures { result ≡ misplaced a self }
     {
-        let first = a.first;
-        let second = a.second;
         let one = self.stage == 1;
         let two = self.stage == 2;
         !(one | two)
-            | ((one | self.entry) & !(self.first < first.levels))
-            | (two & !(self.second < second.levels))
+            | ((one | self.entry) & !(self.first < a.first.levels))
+            | (two & !(self.second < a.second.levels))
     }
 
     // The level of the entry.
@@ -108,8 +104,7 @@ impl Position {
     fn before(self, base: u64, len: u64, a: Access) -> State
         ensures { result ≡ before base len a self }
     {
-        let at = self.at;
-        if image::inside(base, len, at.0, 8) {
+        if image::inside(base, len, self.at.0, 8) {
             return State::Going(self);
         }
         State::Ended(Answer::Fault(a.access_fault()))
@@ -119,18 +114,18 @@ impl Position {
     fn pass(self, base: u64, len: u64, a: Access) -> State
         ensures { result ≡ passed base len a self }
     {
-        let at = self.at;
         if !self.entry {
-            return State::Ended(Answer::from(engine::conclude(base, len, a, at)));
+            return State::Ended(Answer::from(engine::conclude(base, len, a, self.at)));
         }
-        let mut q = self;
-        q.stage = 1;
+        let q = Position { stage: 1, ..self };
         q.before(base, len, a)
     }
 
     // On from a second-stage entry.
     fn after_second(self, base: u64, len: u64, a: Access, e: u64, j: Judgement) -> State
-        requires { Tables a × (self.second < a.second.levels) × (j ≡ judged (need_for a self.entry) self.second self.guest.0 e) }
+        requires tables { Tables a }
+        requires below { self.second < a.second.levels }
+        requires judgement { j ≡ judged (need_for a self.entry) self.second self.guest.0 e }
         ensures { result ≡ after_second base len a self j }
     {
         let guest = self.guest;
@@ -142,11 +137,8 @@ impl Position {
             Judgement::Leaf(x) => {
                 let q = Position {
                     stage: 2,
-                    first: self.first,
-                    second: self.second,
-                    entry: self.entry,
-                    guest,
                     at: Machine(x),
+                    ..self
                 };
                 q.pass(base, len, a)
             }
@@ -154,11 +146,9 @@ impl Position {
                 let level = self.second - 1;
                 let q = Position {
                     stage: 2,
-                    first: self.first,
                     second: level,
-                    entry: self.entry,
-                    guest,
                     at: Machine(table + 8 * rules::index(level, guest.0)),
+                    ..self
                 };
                 q.before(base, len, a)
             }
@@ -167,7 +157,9 @@ impl Position {
 
     // On from a first-stage entry.
     fn after_first(self, base: u64, len: u64, a: Access, e: u64, j: Judgement) -> State
-        requires { Tables a × (self.first < a.first.levels) × (j ≡ judged (first_need a) self.first a.address e) }
+        requires tables { Tables a }
+        requires below { self.first < a.first.levels }
+        requires judgement { j ≡ judged (first_need a) self.first a.address e }
         ensures { result ≡ after_first base len a self j }
     {
         match j {
@@ -183,16 +175,16 @@ impl Position {
 
     // On from an entry of either stage.
     pub fn after(self, base: u64, len: u64, a: Access, e: u64) -> State
-        requires { Tables a × (misplaced a self ≡ false) }
+        requires tables { Tables a }
+        requires placed { misplaced a self ≡ false }
         ensures { result ≡ after base len a self e }
     {
         if self.stage == 1 {
             let j = a.first_need().test().judge(self.first, a.address, e);
             return self.after_first(base, len, a, e, j);
         }
-        let guest = self.guest;
         let t = second_stage::test(a, left(self.entry));
-        let j = t.judge(self.second, guest.0, e);
+        let j = t.judge(self.second, self.guest.0, e);
         self.after_second(base, len, a, e, j)
     }
 }

@@ -10,7 +10,8 @@ returns-in-Err c = rw (sym c.refusal.ensures ∙ c.in-Err.is)
 pub turn-requires : goal.turn-requires
 turn-requires c =
     let a = c.args in
-    (taken a.self a.base _ (sym c.refusal.ensures ∙ c.in_default.is)).unfinished _ c.in-Going.is
+    let t = (taken a.self a.base _ (sym c.refusal.ensures ∙ c.in_default.is)).unfinished _ c.in-Going.is in
+    record { room = t.0; placed = t.1 }
 
 pub returns-in-Ended : goal.returns-in-Ended
 unfolding pressed stepped

@@ -8,7 +8,7 @@ unfolding turned
 returns-in_default c = rw (c.moved.ensures, c.access_fault.ensures, c.access-a.ensures, sym c.fetch.ensures ∙ c.in_default.is)
 
 pub after-state-requires : goal.after-state-requires
-after-state-requires c = rw c.access-a.ensures (tables-at c.args.self, c.requires.1)
+after-state-requires c = rw c.access-a.ensures (record { tables = tables-at c.args.self; placed = c.requires.placed })
 
 pub returns : goal.returns
 unfolding turned

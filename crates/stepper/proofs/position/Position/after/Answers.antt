@@ -22,13 +22,13 @@ second c =
 
 pub judge-j-requires : goal.judge-j-requires
 judge-j-requires c =
-    let p = placed _ _ c.requires.1 in
-    omega (arith, p.first (inl c.if-self-eq1.true), c.requires.0.first)
+    let p = placed _ _ c.requires.placed in
+    omega (arith, p.first (inl c.if-self-eq1.true), c.requires.tables.first)
 
 pub after_first-requires : goal.after_first-requires
 after_first-requires c =
-    let p = placed _ _ c.requires.1 in
-    (c.requires.0, p.first (inl c.if-self-eq1.true), first (goal.at.after_first-requires c).After-judge-j)
+    let p = placed _ _ c.requires.placed in
+    record { tables = c.requires.tables; below = p.first (inl c.if-self-eq1.true); judgement = first (goal.at.after_first-requires c).After-judge-j }
 
 pub returns-then-self-eq1 : goal.returns-then-self-eq1
 unfolding after
@@ -36,13 +36,13 @@ returns-then-self-eq1 c = rw (c.after_first.ensures, first (goal.at.returns-then
 
 pub judge-j-requires-2 : goal.judge-j-requires-2
 judge-j-requires-2 c =
-    let p = placed _ _ c.requires.1 in
-    omega (arith, p.second (⊎_elim (λ e. absurd (c.if-self-eq1.false e)) (λ e. e) p.stage), c.requires.0.second)
+    let p = placed _ _ c.requires.placed in
+    omega (arith, p.second (⊎_elim (λ e. absurd (c.if-self-eq1.false e)) (λ e. e) p.stage), c.requires.tables.second)
 
 pub after_second-requires : goal.after_second-requires
 after_second-requires c =
-    let p = placed _ _ c.requires.1 in
-    (c.requires.0, p.second (⊎_elim (λ e. absurd (c.if-self-eq1.false e)) (λ e. e) p.stage), second (goal.at.after_second-requires c).After-judge-j-2)
+    let p = placed _ _ c.requires.placed in
+    record { tables = c.requires.tables; below = p.second (⊎_elim (λ e. absurd (c.if-self-eq1.false e)) (λ e. e) p.stage); judgement = second (goal.at.after_second-requires c).After-judge-j-2 }
 
 pub returns : goal.returns
 unfolding after

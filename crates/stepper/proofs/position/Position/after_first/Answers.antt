@@ -12,12 +12,12 @@ use Rattle.stepper.proofs.position.Position.after_first.Goals as goal
 pub overflow_sub-level : goal.overflow_sub-level
 overflow_sub-level c =
     let a = c.args in
-    omega (arith, (pointer_bounds (first_need a.a) a.self.first a.a.address a.e _ (sym c.requires.2 ∙ c.in-Pointer.is)).0)
+    omega (arith, (pointer_bounds (first_need a.a) a.self.first a.a.address a.e _ (sym c.requires.judgement ∙ c.in-Pointer.is)).0)
 
 pub overflow_add-at : goal.overflow_add-at
 overflow_add-at c =
     let a = c.args in
-    omega (arith, (pointer_bounds (first_need a.a) a.self.first a.a.address a.e _ (sym c.requires.2 ∙ c.in-Pointer.is)).1, c.index.ensures.1)
+    omega (arith, (pointer_bounds (first_need a.a) a.self.first a.a.address a.e _ (sym c.requires.judgement ∙ c.in-Pointer.is)).1, c.index.ensures.1)
 
 pub returns-in-Bad : goal.returns-in-Bad
 unfolding after_first

@@ -10,12 +10,12 @@ use Rattle.stepper.proofs.position.Position.after_second.Goals as goal
 pub overflow_sub-level : goal.overflow_sub-level
 overflow_sub-level c =
     let a = c.args in
-    omega (arith, (pointer_bounds (need_for a.a a.self.entry) a.self.second a.self.guest.0 a.e _ (sym c.requires.2 ∙ c.in-Pointer.is)).0)
+    omega (arith, (pointer_bounds (need_for a.a a.self.entry) a.self.second a.self.guest.0 a.e _ (sym c.requires.judgement ∙ c.in-Pointer.is)).0)
 
 pub overflow_add-q : goal.overflow_add-q
 overflow_add-q c =
     let a = c.args in
-    omega (arith, (pointer_bounds (need_for a.a a.self.entry) a.self.second a.self.guest.0 a.e _ (sym c.requires.2 ∙ c.in-Pointer.is)).1, c.index.ensures.1)
+    omega (arith, (pointer_bounds (need_for a.a a.self.entry) a.self.second a.self.guest.0 a.e _ (sym c.requires.judgement ∙ c.in-Pointer.is)).1, c.index.ensures.1)
 
 pub returns-in-Bad : goal.returns-in-Bad
 unfolding after_second
@@ -31,7 +31,7 @@ pub returns-in-Pointer : goal.returns-in-Pointer
 unfolding after_second
 returns-in-Pointer c =
     let a = c.args in
-    let high = (pointer_bounds (need_for a.a a.self.entry) a.self.second a.self.guest.0 a.e _ (sym c.requires.2 ∙ c.in-Pointer.is)).0 in
+    let high = (pointer_bounds (need_for a.a a.self.entry) a.self.second a.self.guest.0 a.e _ (sym c.requires.judgement ∙ c.in-Pointer.is)).0 in
     c.before-in-Pointer.ensures ∙ rw c.in-Pointer.is
     (ap (λ (x : ℕ). before a.base a.len a.a (position 2 a.self.first (a.self.second - 1) a.self.entry a.self.guest (machine x)))
-    (second-slot a.a a.self.entry a.self.guest (a.self.second - 1) c.in-Pointer.table c.index.result (omega (arith, high, c.requires.1)) c.index.ensures.0))
+    (second-slot a.a a.self.entry a.self.guest (a.self.second - 1) c.in-Pointer.table c.index.result (omega (arith, high, c.requires.below)) c.index.ensures.0))
