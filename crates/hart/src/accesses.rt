@@ -11,7 +11,7 @@ ghost use Rattle.hart.specs.Lent.{on, accessed_on};
 
 use crate::control::Control;
 use crate::event;
-use crate::event::{Halt, Outcome};
+use crate::event::{Ended, Halt, Outcome};
 use crate::state::Hart;
 use csr::Form;
 use exceptions::Refusal;
@@ -63,7 +63,7 @@ impl Control {
         ensures { accessed_on result regs.new ≡ goes (on self regs.old) (view_of at mask) form w writes }
     {
         let home = at.home;
-        let gate = gate(at, &*regs);
+        let gate = gate(at, regs);
         let word = regs[home];
         let old = csr::show(at, gate, word);
         let x = csr::combine(form, old, w);
@@ -80,9 +80,7 @@ impl Control {
     fn answer_halt(self, halt: Halt, word: u32, regs: &mut [u64; places::KEPT]) -> Answer
         ensures { accessed_on result regs.new ≡ answer (halted (on self regs.old) halt word) 0 }
     {
-        let e = self.halt(halt, word, &mut *regs);
-        let control = e.control;
-        let outcome = e.outcome;
+        let Ended { control, outcome } = self.halt(halt, word, regs);
         Answer {
             control,
             outcome,
@@ -108,13 +106,13 @@ impl Control {
         requires checked { passed ≡ passes (on self regs.old) }
         ensures { accessed_on result regs.new ≡ access_row (on self regs.old) own place row form w writes word }
     {
-        let verdict = csr::verdict(self.context(&*regs), row, writes);
+        let verdict = csr::verdict(self.context(regs), row, writes);
         match event::stops(passed, own, verdict) {
             Ok(()) => {
                 let to = table::kept::reach(place, self.v == 1);
-                self.goes(to, row.mask, form, w, writes, &mut *regs)
+                self.goes(to, row.mask, form, w, writes, regs)
             }
-            Err(halt) => self.answer_halt(halt, word, &mut *regs),
+            Err(halt) => self.answer_halt(halt, word, regs),
         }
     }
 
@@ -141,11 +139,12 @@ impl Control {
                     value: 0,
                 }
             }
-            Err(halt) => self.answer_halt(halt, word, &mut *regs),
+            Err(halt) => self.answer_halt(halt, word, regs),
         }
     }
 
-    // An access to the register with a number, by a hart that has passed check 2 or not.
+    // An access to the register with a number, by a hart that has passed check 2 or not: that is asked of the words as they were
+    // given, since those lent were copied just now, and a load waits for that.
     pub fn access(
         self,
         passed: bool,
@@ -175,15 +174,17 @@ impl Hart {
     {
         let passed = self.passes();
         let mut regs = self.regs;
-        let a = self
+        let Answer {
+            control,
+            outcome,
+            value,
+        } = self
             .control()
             .access(passed, form, number, w, writes, word, &mut regs);
-        let c = a.control;
-        let outcome = a.outcome;
         Accessed {
-            hart: c.on(regs),
+            hart: control.on(regs),
             outcome,
-            value: a.value,
+            value,
         }
     }
 

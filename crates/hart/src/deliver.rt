@@ -70,9 +70,9 @@ impl Control {
         ensures { on result regs.new ≡ delivered_to to (on self regs.old) t }
     {
         match to {
-            Target::M => self.deliver_m(t, &mut *regs),
-            Target::HS => self.deliver_hs(t, &mut *regs),
-            Target::VS => self.deliver_vs(t, &mut *regs),
+            Target::M => self.deliver_m(t, regs),
+            Target::HS => self.deliver_hs(t, regs),
+            Target::VS => self.deliver_vs(t, regs),
         }
     }
 
@@ -81,12 +81,12 @@ impl Control {
         ensures { on result regs.new ≡ delivered (on self regs.old) t }
     {
         let to = delivery::delivers_to(
-            self.context(&*regs),
+            self.context(regs),
             regs[places::MEDELEG],
             regs[places::HEDELEG],
             t.cause,
         );
-        self.deliver_to(to, t, &mut *regs)
+        self.deliver_to(to, t, regs)
     }
 }
 

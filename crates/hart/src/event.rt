@@ -105,30 +105,15 @@ impl Outcome {
     }
 }
 
-impl Ended {
-    // The step, with these registers.
-    pub fn on(self, regs: [u64; places::KEPT]) -> Step
-        ensures { result ≡ step_on self regs }
-    {
-        let control = self.control;
-        let outcome = self.outcome;
-        Step {
-            hart: control.on(regs),
-            outcome,
-        }
-    }
-}
-
 impl Control {
     // The trap is delivered.
     fn take_trap(self, t: Exception, regs: &mut [u64; places::KEPT]) -> Ended
         ensures { step_on result regs.new ≡ trapped (on self regs.old) t }
     {
-        let cause = t.cause;
-        let taken = self.deliver(t, &mut *regs);
+        let taken = self.deliver(t, regs);
         Ended {
             control: taken,
-            outcome: Outcome::Trapped(cause),
+            outcome: Outcome::Trapped(t.cause),
         }
     }
 
@@ -143,21 +128,20 @@ impl Control {
                     outcome: Outcome::Refused(refusal),
                 }
             }
-            Halt::Raises(cause) => self.take_trap(plain(cause, word as u64), &mut *regs),
+            Halt::Raises(cause) => self.take_trap(plain(cause, word as u64), regs),
         }
     }
 }
 
 impl Hart {
-    // The trap is delivered.
+    // The trap is delivered. (This and `halt` are by value, like those of `Control`: over lent registers HLV and HSV are slower.)
     pub fn take_trap(self, t: Exception) -> Step
         ensures { result ≡ trapped self t }
     {
-        let cause = t.cause;
         let taken = self.deliver(t);
         Step {
             hart: taken,
-            outcome: Outcome::Trapped(cause),
+            outcome: Outcome::Trapped(t.cause),
         }
     }
 
