@@ -11,7 +11,7 @@ ghost use Rattle.hart.specs.Lent.{on, accessed_on};
 
 use crate::control::Control;
 use crate::event;
-use crate::event::{Halt, Outcome};
+use crate::event::{Ended, Halt, Outcome};
 use crate::state::Hart;
 use csr::Form;
 use exceptions::Refusal;
@@ -37,8 +37,7 @@ pub struct Answer {
 }
 
 // The bits that a register's gate lets through.
-fn gate(at: Kept, regs: &[u64]) -> u64
-    requires { length regs.now ≡ kept }
+fn gate(at: Kept, regs: &[u64; places::KEPT]) -> u64
     ensures { result ≡ lets regs.now (view_of at 0) }
 {
     let gate = at.gate;
@@ -57,13 +56,14 @@ impl Control {
         form: Form,
         w: u64,
         writes: bool,
-        regs: &mut [u64],
+        regs: &mut [u64; places::KEPT],
     ) -> Answer
-        requires { (at.home < kept) × (at.shift < 64) × (length regs.old ≡ kept) }
+        requires home { at.home < kept }
+        requires shift { at.shift < 64 }
         ensures { accessed_on result regs.new ≡ goes (on self regs.old) (view_of at mask) form w writes }
     {
         let home = at.home;
-        let gate = gate(at, &*regs);
+        let gate = gate(at, regs);
         let word = regs[home];
         let old = csr::show(at, gate, word);
         let x = csr::combine(form, old, w);
@@ -77,13 +77,10 @@ impl Control {
     }
 
     // One that halts, and answers 0.
-    fn answer_halt(self, halt: Halt, word: u32, regs: &mut [u64]) -> Answer
-        requires { length regs.old ≡ kept }
+    fn answer_halt(self, halt: Halt, word: u32, regs: &mut [u64; places::KEPT]) -> Answer
         ensures { accessed_on result regs.new ≡ answer (halted (on self regs.old) halt word) 0 }
     {
-        let e = self.halt(halt, word, &mut *regs);
-        let control = e.control;
-        let outcome = e.outcome;
+        let Ended { control, outcome } = self.halt(halt, word, regs);
         Answer {
             control,
             outcome,
@@ -102,24 +99,32 @@ impl Control {
         w: u64,
         writes: bool,
         word: u32,
-        regs: &mut [u64],
+        regs: &mut [u64; places::KEPT],
     ) -> Answer
-        requires { (place < count) × (row ≡ row_of (at place)) × (length regs.old ≡ kept) × (passed ≡ passes (on self regs.old)) }
+        requires listed { place < count }
+        requires stands { row ≡ row_of (at place) }
+        requires checked { passed ≡ passes (on self regs.old) }
         ensures { accessed_on result regs.new ≡ access_row (on self regs.old) own place row form w writes word }
     {
-        let verdict = csr::verdict(self.context(&*regs), row, writes);
+        let verdict = csr::verdict(self.context(regs), row, writes);
         match event::stops(passed, own, verdict) {
             Ok(()) => {
                 let to = table::kept::reach(place, self.v == 1);
-                self.goes(to, row.mask, form, w, writes, &mut *regs)
+                self.goes(to, row.mask, form, w, writes, regs)
             }
-            Err(halt) => self.answer_halt(halt, word, &mut *regs),
+            Err(halt) => self.answer_halt(halt, word, regs),
         }
     }
 
     // An access to a number that no register has.
-    fn unlisted(self, passed: bool, own: Result<(), Refusal>, word: u32, regs: &mut [u64]) -> Answer
-        requires { (length regs.old ≡ kept) × (passed ≡ passes (on self regs.old)) }
+    fn unlisted(
+        self,
+        passed: bool,
+        own: Result<(), Refusal>,
+        word: u32,
+        regs: &mut [u64; places::KEPT],
+    ) -> Answer
+        requires { passed ≡ passes (on self regs.old) }
         ensures { accessed_on result regs.new ≡ unlisted (on self regs.old) own word }
     {
         let verdict = Verdict {
@@ -134,11 +139,12 @@ impl Control {
                     value: 0,
                 }
             }
-            Err(halt) => self.answer_halt(halt, word, &mut *regs),
+            Err(halt) => self.answer_halt(halt, word, regs),
         }
     }
 
-    // An access to the register with a number, by a hart that has passed check 2 or not.
+    // An access to the register with a number, by a hart that has passed check 2 or not: that is asked of the words as they were
+    // given, since those lent were copied just now, and a load waits for that.
     pub fn access(
         self,
         passed: bool,
@@ -149,14 +155,16 @@ impl Control {
         word: u32,
         regs: &mut [u64],
     ) -> Answer
-        requires { (length regs.old ≡ kept) × (passed ≡ passes (on self regs.old)) }
+        requires whole { length regs.old ≡ kept }
+        requires checked { passed ≡ passes (on self regs.old) }
         ensures { accessed_on result regs.new ≡ access (on self regs.old) form number w writes word }
     {
         let own = csr::check(number);
+        let regs = regs.as_mut_array().unwrap();
         let Some((place, row)) = table::lookup(number) else {
-            return self.unlisted(passed, own, word, &mut *regs);
+            return self.unlisted(passed, own, word, regs);
         };
-        self.access_row(passed, own, place, row, form, w, writes, word, &mut *regs)
+        self.access_row(passed, own, place, row, form, w, writes, word, regs)
     }
 }
 
@@ -166,15 +174,17 @@ impl Hart {
     {
         let passed = self.passes();
         let mut regs = self.regs;
-        let a = self
+        let Answer {
+            control,
+            outcome,
+            value,
+        } = self
             .control()
             .access(passed, form, number, w, writes, word, &mut regs);
-        let c = a.control;
-        let outcome = a.outcome;
         Accessed {
-            hart: c.on(regs),
+            hart: control.on(regs),
             outcome,
-            value: a.value,
+            value,
         }
     }
 

@@ -11,8 +11,7 @@ use exceptions::Exception;
 use registers::places;
 
 impl Control {
-    fn deliver_m(self, t: Exception, regs: &mut [u64]) -> Control
-        requires { length regs.old ≡ kept }
+    fn deliver_m(self, t: Exception, regs: &mut [u64; places::KEPT]) -> Control
         ensures { on result regs.new ≡ delivered_m (on self regs.old) t }
     {
         let tvec = regs[places::MTVEC];
@@ -30,8 +29,7 @@ impl Control {
         }
     }
 
-    fn deliver_hs(self, t: Exception, regs: &mut [u64]) -> Control
-        requires { length regs.old ≡ kept }
+    fn deliver_hs(self, t: Exception, regs: &mut [u64; places::KEPT]) -> Control
         ensures { on result regs.new ≡ delivered_hs (on self regs.old) t }
     {
         let tvec = regs[places::STVEC];
@@ -51,8 +49,7 @@ impl Control {
         }
     }
 
-    fn deliver_vs(self, t: Exception, regs: &mut [u64]) -> Control
-        requires { length regs.old ≡ kept }
+    fn deliver_vs(self, t: Exception, regs: &mut [u64; places::KEPT]) -> Control
         ensures { on result regs.new ≡ delivered_vs (on self regs.old) t }
     {
         let tvec = regs[places::VSTVEC];
@@ -69,29 +66,27 @@ impl Control {
     }
 
     // After a trap to a target.
-    fn deliver_to(self, to: Target, t: Exception, regs: &mut [u64]) -> Control
-        requires { length regs.old ≡ kept }
+    fn deliver_to(self, to: Target, t: Exception, regs: &mut [u64; places::KEPT]) -> Control
         ensures { on result regs.new ≡ delivered_to to (on self regs.old) t }
     {
         match to {
-            Target::M => self.deliver_m(t, &mut *regs),
-            Target::HS => self.deliver_hs(t, &mut *regs),
-            Target::VS => self.deliver_vs(t, &mut *regs),
+            Target::M => self.deliver_m(t, regs),
+            Target::HS => self.deliver_hs(t, regs),
+            Target::VS => self.deliver_vs(t, regs),
         }
     }
 
     // After a trap by an exception, whatever it is.
-    pub fn deliver(self, t: Exception, regs: &mut [u64]) -> Control
-        requires { length regs.old ≡ kept }
+    pub fn deliver(self, t: Exception, regs: &mut [u64; places::KEPT]) -> Control
         ensures { on result regs.new ≡ delivered (on self regs.old) t }
     {
         let to = delivery::delivers_to(
-            self.context(&*regs),
+            self.context(regs),
             regs[places::MEDELEG],
             regs[places::HEDELEG],
             t.cause,
         );
-        self.deliver_to(to, t, &mut *regs)
+        self.deliver_to(to, t, regs)
     }
 }
 

@@ -101,46 +101,24 @@ impl Outcome {
     pub fn is_done(self) -> bool
         ensures { result ≡ is_done self }
     {
-        match self {
-            Outcome::Done => true,
-            Outcome::Trapped(_) => false,
-            Outcome::Refused(_) => false,
-            Outcome::Interrupted(_) => false,
-        }
-    }
-}
-
-impl Ended {
-    // The step, with these registers.
-    pub fn on(self, regs: [u64; places::KEPT]) -> Step
-        ensures { result ≡ step_on self regs }
-    {
-        let control = self.control;
-        let outcome = self.outcome;
-        Step {
-            hart: control.on(regs),
-            outcome,
-        }
+        matches!(self, Outcome::Done)
     }
 }
 
 impl Control {
     // The trap is delivered.
-    fn take_trap(self, t: Exception, regs: &mut [u64]) -> Ended
-        requires { length regs.old ≡ kept }
+    fn take_trap(self, t: Exception, regs: &mut [u64; places::KEPT]) -> Ended
         ensures { step_on result regs.new ≡ trapped (on self regs.old) t }
     {
-        let cause = t.cause;
-        let taken = self.deliver(t, &mut *regs);
+        let taken = self.deliver(t, regs);
         Ended {
             control: taken,
-            outcome: Outcome::Trapped(cause),
+            outcome: Outcome::Trapped(t.cause),
         }
     }
 
     // An event that does not go on: it is refused, or raises a cause with its instruction word.
-    pub fn halt(self, halt: Halt, word: u32, regs: &mut [u64]) -> Ended
-        requires { length regs.old ≡ kept }
+    pub fn halt(self, halt: Halt, word: u32, regs: &mut [u64; places::KEPT]) -> Ended
         ensures { step_on result regs.new ≡ halted (on self regs.old) halt word }
     {
         match halt {
@@ -150,29 +128,21 @@ impl Control {
                     outcome: Outcome::Refused(refusal),
                 }
             }
-            Halt::Raises(cause) => self.take_trap(plain(cause, word as u64), &mut *regs),
+            Halt::Raises(cause) => self.take_trap(plain(cause, word as u64), regs),
         }
     }
 }
 
 impl Hart {
-    // The trap is delivered.
+    // The trap is delivered. (This and `halt` are by value, like those of `Control`: over lent registers HLV and HSV are slower.)
     pub fn take_trap(self, t: Exception) -> Step
         ensures { result ≡ trapped self t }
     {
-        let cause = t.cause;
         let taken = self.deliver(t);
         Step {
             hart: taken,
-            outcome: Outcome::Trapped(cause),
+            outcome: Outcome::Trapped(t.cause),
         }
-    }
-
-    // Whether it goes on, with its own refusal and the verdict on its instruction.
-    pub fn stops(self, own: Result<(), Refusal>, verdict: Verdict) -> Result<(), Halt>
-        ensures { result ≡ stop_of self own verdict }
-    {
-        stops(self.passes(), own, verdict)
     }
 
     // An event that does not go on.
@@ -201,7 +171,7 @@ impl Hart {
         requires { stop_of self own verdict ≡ Ok tt → F.pre finish self }
         ensures { (finished : Step) → Gives (F.post finish self) finished → result ≡ settled self own verdict word finished }
     {
-        match self.stops(own, verdict) {
+        match stops(self.passes(), own, verdict) {
             Ok(()) => finish(self),
             Err(halt) => self.halt(halt, word),
         }
