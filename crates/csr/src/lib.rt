@@ -2,16 +2,17 @@
 #![tactic(auto)]
 
 ghost use Rattle.std.specs.Prelude.{◌≡◌, ◌<◌};
-ghost use Rattle.csr.specs.Access.{over_range, verdict, combined};
+ghost use Rattle.csr.specs.Access.{refusal_of, verdict, combined};
 ghost use Rattle.bits.specs.Field.{pick};
 ghost use Rattle.registers.specs.Views.{shown, stored_by};
 ghost use Rattle.table.specs.Table.{view_of};
 
+use exceptions::Refusal;
 use privilege::{Context, Verdict};
 use registers::fields::{TVM, VTVM};
 use registers::rules;
-use table::Row;
 use table::kept::Kept;
+use table::{Level, Row};
 
 #[derive(Clone, Copy)]
 pub enum Form {
@@ -21,11 +22,14 @@ pub enum Form {
     Clear,
 }
 
-// Refusal 5, or 0: a register number over 4095.
-pub fn refusal(number: u64) -> u64
-    ensures { result ≡ pick (over_range number) 5 0 }
+// An access's own refusal: a register number over 4095.
+pub fn check(number: u64) -> Result<(), Refusal>
+    ensures { result ≡ refusal_of number }
 {
-    bits::select(4095 < number, 5, 0)
+    if number > 4095 {
+        return Err(Refusal::Register);
+    }
+    Ok(())
 }
 
 // An access to the register of a row.
@@ -35,9 +39,9 @@ pub fn verdict(c: Context, row: Row, writes: bool) -> Verdict
     let satp = row.number == 0x180;
     let tvm = (TVM.get(c.mstatus) == 1) & (satp | (row.number == 0x680));
     let vtvm = (VTVM.get(c.hstatus) == 1) & satp;
-    let host = c.is_u() | (c.is_hs() & ((row.level == table::MACHINE) | tvm));
-    let guest = (c.v == 1) & (row.level == table::MACHINE);
-    let vs = c.is_vs() & (vtvm | (row.level == table::HYPERVISOR));
+    let host = c.is_u() | (c.is_hs() & ((row.level == Level::Machine) | tvm));
+    let guest = (c.v == 1) & (row.level == Level::Machine);
+    let vs = c.is_vs() & (vtvm | (row.level == Level::Hypervisor));
     Verdict {
         gives2: (writes & row.read_only) | (host | guest),
         gives22: vs | c.is_vu(),

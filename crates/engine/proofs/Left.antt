@@ -1,10 +1,10 @@
 -- What a walk into words leaves, as its run. Assumes nothing.
+use Rattle.std.specs.Prelude.{Option}
 use mathlib.Core.Path.{◌≡◌, ap, ◌∙◌}
 use mathlib.Core.List.{List}
 use Prim.Native.Nat.{ℕ, ◌+◌, ◌*◌}
 use lib.ListN.{length}
 use lib.Seq.{sets, length-sets}
-use Rattle.image.specs.declared.Entry.{Entry}
 use Rattle.access.specs.declared.Machine.{Machine}
 use Rattle.stages.specs.Tree.{Walk, Ran, run}
 use Rattle.stages.specs.Listed.{read_words}
@@ -17,7 +17,7 @@ pub record Left {A : Type 0} (ran : Ran A) (before : List ℕ) (from : ℕ) (aft
   pub end : came ≡ ran.end
   pub size : length after ≡ length before
 
-pub left_by : {A : Type 0} (look : Machine → Entry) (w : Walk A) (before : List ℕ) (from : ℕ) {after : List ℕ} {behind : ℕ} {came : A} → onto after behind came ≡ into look w before from
+pub left_by : {A : Type 0} (look : Machine → Option ℕ) (w : Walk A) (before : List ℕ) (from : ℕ) {after : List ℕ} {behind : ℕ} {came : A} → onto after behind came ≡ into look w before from
     → Left (run look w) before from after behind came
 left_by {A} look w before from e =
     let k = e ∙ into-run look w before from in

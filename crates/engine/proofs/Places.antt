@@ -1,8 +1,8 @@
 -- How many places a walk needs: five levels over five read at most as many entries as the list has places. Assumes nothing.
+use Rattle.std.specs.Prelude.{Option}
 use Prim.Native.Nat.{ℕ, ◌≤◌}
 use native.Mathlib.Omega.{arith}
 use lib.ListN.{length}
-use Rattle.image.specs.declared.Entry.{Entry}
 use Rattle.access.specs.declared.Access.{Access}
 use Rattle.access.specs.declared.Machine.{Machine}
 use Rattle.stages.specs.Tree.{run}
@@ -15,7 +15,7 @@ use Rattle.engine.specs.Place.{reach}
 pub enough : (a : Access) → Tables a → reach a a.first.levels ≤ places
 enough a t = rw (most-sum a.first.levels a.second.levels) at (most-places _ _ t.first t.second)
 
-module _ (a : Access) (base len : ℕ) (look : Machine → Entry) where
+module _ (a : Access) (base len : ℕ) (look : Machine → Option ℕ) where
   -- the reads, by what the code counts down
   pub within-reach : length (run look (walk_of base len a)).reads ≤ reach a a.first.levels
   within-reach = rw (most-sum a.first.levels a.second.levels) at (at_most a base len look)

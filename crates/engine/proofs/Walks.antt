@@ -1,4 +1,5 @@
 -- The walk's loop: what is left, from a guest address on, is the whole. Assumes nothing.
+use Rattle.std.specs.Prelude.{Option, None, Result, Ok, Err}
 use mathlib.Core.Path.{◌≡◌, refl, sym, ap, ◌∙◌}
 use mathlib.Core.Bool.{Bool, true, false, ◌&&◌, not}
 use mathlib.Core.List.{List}
@@ -10,8 +11,6 @@ use lib.ListN.{length}
 use borrow.Author.Tests.{eqb-true, eqb-false}
 use Rattle.bits.specs.Field.{get, pick}
 use Rattle.bits.proofs.Bools.{clash}
-use Rattle.image.specs.declared.Entry.{Entry}
-use Rattle.image.specs.declared.Entry.TheVariants.{Outside}
 use Rattle.rules.specs.declared.Judgement.{Judgement}
 use Rattle.rules.specs.declared.Judgement.TheVariants.{Pointer, Leaf, Bad}
 use Rattle.rules.specs.Address.{well_formed, first, index_bits, index}
@@ -24,7 +23,7 @@ use Rattle.access.specs.Needs.{first_need, entry_need}
 use Rattle.access.specs.Faults.{access_fault, page_fault, entry_fault}
 use Rattle.exceptions.specs.declared.Exception.{Exception}
 use Rattle.stages.specs.Tree.{Walk, done, bind}
-use Rattle.stages.specs.Stages.{Result, yields, faults, onward, ◌then◌, slot, follow, inspect, down, translation, guest, second_of, first_of, last, final, walk_of}
+use Rattle.stages.specs.Stages.{onward, ◌then◌, slot, follow, inspect, down, translation, guest, second_of, first_of, last, final, walk_of}
 use Rattle.stages.proofs.Trees.{then_assoc, begin-off, begin-at}
 use Rattle.stages.proofs.Bounds.{Within, within-begin}
 use Rattle.second_stage.specs.Words.{Into, onto, into, Sees}
@@ -58,11 +57,11 @@ module _ (base len : ℕ) (a : Access) where
   first-pointer level table i h e = rw (e, below_at (first_of a) level table h) (first-down level table h)
 
   -- where the walk begins
-  strayed : strays a ≡ true → done (faults (page_fault a)) ≡ walk_of base len a
+  strayed : strays a ≡ true → done (Err (page_fault a)) ≡ walk_of base len a
   unfolding strays walk_of bind
   strayed t = go (eqb a.first.levels 0) (well_formed first a.first.levels a.address) refl refl t
     where
-      go : (z w : Bool) → eqb a.first.levels 0 ≡ z → well_formed first a.first.levels a.address ≡ w → (not z && not w) ≡ true → done (faults (page_fault a)) ≡ walk_of base len a
+      go : (z w : Bool) → eqb a.first.levels 0 ≡ z → well_formed first a.first.levels a.address ≡ w → (not z && not w) ≡ true → done (Err (page_fault a)) ≡ walk_of base len a
       go true w p q t = clash t
       go false true p q t = clash t
       go false false p q t = rw (begin-at (first_of a) a.first.levels (positive a.first.levels p), q)
@@ -81,8 +80,8 @@ module _ (base len : ℕ) (a : Access) where
 
 -- ---- the loop
 
-module _ (look : Machine → Entry) (base len : ℕ) (a : Access) (out₀ : List ℕ) (from : ℕ) where
-  abbrev all : Into (Result Machine)
+module _ (look : Machine → Option ℕ) (base len : ℕ) (a : Access) (out₀ : List ℕ) (from : ℕ) where
+  abbrev all : Into (Result Machine Exception)
   all = into look (walk_of base len a) out₀ from
 
   -- where the loop stands, before the second stage and after it
@@ -92,13 +91,13 @@ module _ (look : Machine → Entry) (base len : ℕ) (a : Access) (out₀ : List
     pub room : next + 4 * reach a left ≤ length out
     pub size : length out ≡ length out₀
 
-  pub record Arrives (out : List ℕ) (next left : ℕ) (o : Result Machine) : Type 0 where
+  pub record Arrives (out : List ℕ) (next left : ℕ) (o : Result Machine Exception) : Type 0 where
     pub same : into look (onward (arrived base len a left) o) out next ≡ all
     pub depth : left ≤ a.first.levels
     pub room : next + 4 * (left * suc a.second.levels) ≤ length out
     pub size : length out ≡ length out₀
 
-  pub astray : strays a ≡ true → onto out₀ from (faults (page_fault a)) ≡ all
+  pub astray : strays a ≡ true → onto out₀ from (Err (page_fault a)) ≡ all
   unfolding into
   astray t = rw (← strayed base len a t)
 
@@ -108,9 +107,9 @@ module _ (look : Machine → Entry) (base len : ℕ) (a : Access) (out₀ : List
 within-second : (a : Access) (left : ℕ) (g : Guest) → Within (translation (second_at a left g)) a.second.levels
 within-second a left g = rw mul-one at (within-begin (second_at a left g) 0 (λ x. tt) a.second.levels)
 
-module _ {look : Machine → Entry} {base len : ℕ} {a : Access} {out₀ : List ℕ} {from : ℕ} where
+module _ {look : Machine → Option ℕ} {base len : ℕ} {a : Access} {out₀ : List ℕ} {from : ℕ} where
   pub arrives : {out : List ℕ} {next left : ℕ} {g : Guest} → Walks look base len a out₀ from out next left g
-      → {out' : List ℕ} {next' : ℕ} {o : Result Machine} → onto out' next' o ≡ into look (translation (second_at a left g)) out next → Arrives look base len a out₀ from out' next' left o
+      → {out' : List ℕ} {next' : ℕ} {o : Result Machine Exception} → onto out' next' o ≡ into look (translation (second_at a left g)) out next → Arrives look base len a out₀ from out' next' left o
   unfolding entered
   arrives {out} {next} {left} {g} w e =
       let r = rw (← e) at (into_room look (translation (second_at a left g)) a.second.levels (within-second a left g) out next) in
@@ -122,16 +121,16 @@ module _ {look : Machine → Entry} {base len : ℕ} {a : Access} {out₀ : List
         size = r.1 ∙ w.size;
       }
 
-  pub failed : {out : List ℕ} {next left : ℕ} {f : Exception} → Arrives look base len a out₀ from out next left (faults f) → onto out next (faults f) ≡ all look base len a out₀ from
+  pub failed : {out : List ℕ} {next left : ℕ} {f : Exception} → Arrives look base len a out₀ from out next left (Err f) → onto out next (Err f) ≡ all look base len a out₀ from
   unfolding into
   failed h = h.same
 
-  pub finished : {out : List ℕ} {next left : ℕ} {m : Machine} → Arrives look base len a out₀ from out next left (yields m) → left ≡ 0 → onto out next (last base len a m) ≡ all look base len a out₀ from
+  pub finished : {out : List ℕ} {next left : ℕ} {m : Machine} → Arrives look base len a out₀ from out next left (Ok m) → left ≡ 0 → onto out next (last base len a m) ≡ all look base len a out₀ from
   unfolding into arrived
   finished h z = rw z at h.same
 
   -- a first-stage entry
-  module _ {out : List ℕ} {next left : ℕ} {m : Machine} (h : Arrives look base len a out₀ from out next left (yields m)) (on : 0 < left) where
+  module _ {out : List ℕ} {next left : ℕ} {m : Machine} (h : Arrives look base len a out₀ from out next left (Ok m)) (on : 0 < left) where
     -- its words fit
     pub has_room : next + 4 ≤ length out
     has_room =
@@ -146,13 +145,13 @@ module _ {look : Machine → Entry} {base len : ℕ} {a : Access} {out₀ : List
     entry : into look (inspect (first_of a) (left - 1) (below (first_of a) (left - 1)) m then final base len a) out next ≡ all look base len a out₀ from
     entry = rw (arrived-entry left on) at h.same
 
-    abbrev tables : ℕ → Walk (Result Guest)
+    abbrev tables : ℕ → Walk (Result Guest Exception)
     tables = below (first_of a) (left - 1)
 
-    pub outside : {out' : List ℕ} → (look m ≡ Outside) × (out' ≡ out) → onto out' next (faults (access_fault a)) ≡ all look base len a out₀ from
+    pub outside : {out' : List ℕ} → (look m ≡ None) × (out' ≡ out) → onto out' next (Err (access_fault a)) ≡ all look base len a out₀ from
     unfolding into bind
     outside {out'} e =
-        sym (into_then look (onward (final base len a)) (inspect (first_of a) (left - 1) tables m) (done (faults (access_fault a))) out out' next next
+        sym (into_then look (onward (final base len a)) (inspect (first_of a) (left - 1) tables m) (done (Err (access_fault a))) out out' next next
         (entry-outside look (first_of a) tables (left - 1) next m out out' e)) ∙ entry
 
     module _ {t : Test} {out' : List ℕ} {j : Judgement} (p : t ≡ test_of (first_need a)) (s : Sees look t 1 (left - 1) a.address m next out out' j) where
@@ -171,7 +170,7 @@ module _ {look : Machine → Entry} {base len : ℕ} {a : Access} {out₀ : List
             size = kept s ∙ h.size;
           }
 
-      pub bad : j ≡ Bad → onto out' (next + 4) (faults (page_fault a)) ≡ all look base len a out₀ from
+      pub bad : j ≡ Bad → onto out' (next + 4) (Err (page_fault a)) ≡ all look base len a out₀ from
       unfolding into follow bind
       bad e = rw e at read
 

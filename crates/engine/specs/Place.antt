@@ -1,21 +1,22 @@
 -- Where the code stands between two reads, as what is left of the walk. Serves contracts below the public face.
-use Rattle.std.specs.Prelude.{Bool, ◌&&◌, not, ℕ, zero, suc, ◌+◌, ◌-◌, ◌*◌, eqb}
+use Rattle.std.specs.Prelude.{Bool, ◌&&◌, not, ℕ, zero, suc, ◌+◌, ◌-◌, ◌*◌, eqb, Result}
+use Rattle.exceptions.specs.declared.Exception.{Exception}
 use Rattle.bits.specs.Field.{get, pick}
 use Rattle.rules.specs.Address.{Stage, well_formed, index_bits}
 use Rattle.access.specs.declared.Access.{Access}
 use Rattle.access.specs.declared.Guest.{Guest}
 use Rattle.access.specs.declared.Machine.{Machine}
 use Rattle.stages.specs.Tree.{Walk, done}
-use Rattle.stages.specs.Stages.{Result, ◌then◌, inspect, translation, first_of, guest, last, final}
+use Rattle.stages.specs.Stages.{◌then◌, inspect, translation, first_of, guest, last, final}
 use Rattle.second_stage.specs.Place.{second_at, below}
 
 module _ (base len : ℕ) (a : Access) where
   -- after the second stage: the access itself, or a first-stage entry
-  unfoldable pub arrived : ℕ → Machine → Walk (Result Machine)
+  unfoldable pub arrived : ℕ → Machine → Walk (Result Machine Exception)
   arrived zero m = done (last base len a m)
   arrived (suc l) m = inspect (first_of a) l (below (first_of a) l) m then final base len a
 
-  unfoldable pub entered : ℕ → Guest → Walk (Result Machine)
+  unfoldable pub entered : ℕ → Guest → Walk (Result Machine Exception)
   entered left g = translation (second_at a left g) then arrived left
 
 -- how many reads a walk makes at most, with so many first-stage levels left

@@ -6,19 +6,20 @@ ghost use Rattle.std.proofs.lemmas.List.Edits.{sets};
 ghost use Rattle.stages.specs.Tree.{run};
 ghost use Rattle.stages.specs.Stages.{look, walk_of, last};
 ghost use Rattle.second_stage.specs.Place.{Tables};
-ghost use Rattle.second_stage.specs.Words.{result_of, onto, into};
+ghost use Rattle.second_stage.specs.Words.{onto, into};
 ghost use Rattle.engine.specs.Place.{reach, start_guest, strays};
 ghost use Rattle.engine.specs.Written.{Written};
 
 use access::{Access, Guest, Machine};
+use exceptions::Exception;
 use rules::Judgement;
-use second_stage::{Progress, Reached, Seen, passed};
+use second_stage::{Progress, passed};
 
 // What a walk comes to: how many reads stand in the list, and its end.
 #[derive(Clone, Copy)]
 pub struct Listed {
     pub count: usize,
-    pub reached: Reached,
+    pub reached: Result<Machine, Exception>,
 }
 
 // Whether a first stage that is on finds fault with the address.
@@ -49,19 +50,19 @@ fn start(a: Access) -> Guest
 }
 
 // The end of the walk: the whole access must lie in the image.
-pub fn conclude(base: u64, len: u64, a: Access, m: Machine) -> Reached
-    ensures { result_of result ≡ last base len a m }
+pub fn conclude(base: u64, len: u64, a: Access, m: Machine) -> Result<Machine, Exception>
+    ensures { result ≡ last base len a m }
 {
     if image::inside(base, len, m.0, a.width) {
-        return Reached::At(m);
+        return Ok(m);
     }
-    Reached::Failed(a.access_fault())
+    Err(a.access_fault())
 }
 
 // The walk of an access; its reads go into out, from an index on.
 pub fn walk_into(base: u64, bytes: &[u8], a: Access, from: usize, out: &mut [u64]) -> Progress
     requires { (base + length bytes.now ≤ 2 ^ 56) × Tables a × (from + 4 * reach a a.first.levels ≤ length out.old) }
-    ensures { onto out.new result.next (result_of result.reached) ≡ into (look base bytes.now) (walk_of base (length bytes.now) a) out.old from }
+    ensures { onto out.new result.next result.reached ≡ into (look base bytes.now) (walk_of base (length bytes.now) a) out.old from }
 {
     let len = bytes.len() as u64;
     let limit = image::limit(len);
@@ -71,7 +72,7 @@ pub fn walk_into(base: u64, bytes: &[u8], a: Access, from: usize, out: &mut [u64
     if strays(a) {
         return Progress {
             next,
-            reached: Reached::Failed(a.page_fault()),
+            reached: Err(a.page_fault()),
         };
     }
     let mut left = tables.levels;
@@ -89,7 +90,7 @@ pub fn walk_into(base: u64, bytes: &[u8], a: Access, from: usize, out: &mut [u64
         let s = second_stage::walk(base, limit, bytes, a, left, guest, next, &mut *out);
         next = s.next;
         let reached = s.reached;
-        let Reached::At(m) = reached else {
+        let Ok(m) = reached else {
             return Progress { next, reached };
         };
         if left == 0 {
@@ -102,10 +103,10 @@ pub fn walk_into(base: u64, bytes: &[u8], a: Access, from: usize, out: &mut [u64
         let seen = second_stage::inspect(
             base, limit, bytes, t, 1, left, address, m, next, &mut *out,
         );
-        let Seen::Entry(j) = seen else {
+        let Some(j) = seen else {
             return Progress {
                 next,
-                reached: Reached::Failed(a.access_fault()),
+                reached: Err(a.access_fault()),
             };
         };
         next = next + 4;
@@ -113,7 +114,7 @@ pub fn walk_into(base: u64, bytes: &[u8], a: Access, from: usize, out: &mut [u64
             Judgement::Bad => {
                 return Progress {
                     next,
-                    reached: Reached::Failed(a.page_fault()),
+                    reached: Err(a.page_fault()),
                 };
             }
             Judgement::Leaf(x) => {

@@ -1,8 +1,7 @@
 -- What a call of the C face returns, and what the lent slice holds after it.
-use Rattle.std.specs.Prelude.{List, ℕ, eqb, length}
+use Rattle.std.specs.Prelude.{Option, Some, None, List, ℕ, eqb, length}
 use Rattle.bits.specs.Field.{pick, top}
-use Rattle.table.specs.declared.Found.{Found}
-use Rattle.table.specs.declared.Found.TheVariants.{At, Nothing}
+use Rattle.table.specs.declared.Row.{Row}
 use Rattle.registers.specs.Places.{kept}
 use Rattle.registers.specs.Registers.{at}
 use Rattle.table.specs.Table.{table, first_at}
@@ -28,9 +27,9 @@ abbrev pub on_translation : List ℕ → ℕ → List ℕ → (kind address widt
 on_translation h base bytes kind address width out = put_kind (length h) translation_size kind out (translation_words (translated (hart_of h) base bytes (kind_of kind) address width))
 
 -- the place where a hart keeps the register with a number; `kept`, which is no place, where it keeps none
-abbrev pub place_of : Found → ℕ
-place_of (At row r) = pick (eqb (at row).view.shows top) (at row).view.home kept
-place_of Nothing = kept
+abbrev pub place_of : Option (ℕ × Row) → ℕ
+place_of (Some (row, r)) = pick (eqb (at row).view.shows top) (at row).view.home kept
+place_of None = kept
 
 unfoldable pub place : ℕ → ℕ
 place number = place_of (first_at table number 0)

@@ -1,6 +1,8 @@
 -- A hypervisor load or store that is done lies in the image. Assumes nothing.
-use Rattle.std.proofs.Common.{◌≡◌, ℕ, Bool, true, false, not, eqb, List, [], length, sym, refl, ap, ◌∙◌, eqb-true}
-use borrow.Author.Tests.{not-false}
+use Rattle.std.proofs.Common.{◌≡◌, ℕ, Bool, true, false, not, List, [], length, refl, ap, ◌∙◌}
+use Rattle.std.specs.Prelude.{Result, Ok, Err}
+use Rattle.exceptions.specs.declared.Refusal.{Refusal}
+use Rattle.exceptions.specs.declared.Refusal.TheVariants as refusals
 use Rattle.bits.specs.Field.{pick}
 use Rattle.bits.proofs.Bools.{clash}
 use Rattle.privilege.specs.declared.Verdict.{Verdict}
@@ -10,31 +12,29 @@ use Rattle.access.specs.declared.Access.{Access}
 use Rattle.access.specs.Widths.{known, misaligned}
 use Rattle.access.specs.Faults.{misalignment}
 use Rattle.stages.specs.Tree.{Ran, run}
-use Rattle.stages.specs.Stages.{yields, faults, look, walk_of}
-use Rattle.stages.specs.Listed.{places, padded}
+use Rattle.stages.specs.Stages.{look, walk_of}
 use Rattle.stages.proofs.Ends.{lands_inside}
-use Rattle.second_stage.specs.Words.{reached, result_of}
 use Rattle.walk.specs.declared.Walked.{Walked}
 use Rattle.walk.specs.Walked.{walked}
 use Rattle.hypervisor.specs.declared.Operation.{Operation}
 use Rattle.hypervisor.specs.Hypervisor.{End, refusal_of, access_for, walk_for}
 use Rattle.hypervisor.proofs.Taken.{taken}
 use Rattle.hart.specs.declared.state.Hart.{Hart}
-use Rattle.hart.specs.declared.event.Stop.{Stop}
-use Rattle.hart.specs.declared.event.Stop.TheVariants.{Goes, Halts}
+use Rattle.hart.specs.declared.event.Halt.{Halt}
+use Rattle.hart.specs.declared.event.Halt.TheVariants.{Refuses, Raises}
 use Rattle.hart.specs.declared.guest.Reach.{Reach}
 use Rattle.hart.specs.Hart.{context, paging, passes}
-use Rattle.hart.specs.Event.{is_done, refused, raised, refuses, raises, stop_of}
-use Rattle.hart.specs.Guest.{ended, landed, unwalked, arrives, arrived, reached_by, reach}
+use Rattle.hart.specs.Event.{is_done, halted, unless_refused, stop_of}
+use Rattle.hart.specs.Guest.{ended, landed, unwalked, arrives, reached_by, reach}
 
 -- what goes on is not refused
-pub goes_own : (h : Hart) (own : ℕ) (v : Verdict) → stop_of h own v ≡ Goes → own ≡ 0
-goes_own h own v = go (not (passes h)) (not (eqb own 0)) refl
+pub goes_own : (h : Hart) (own : Result Unit Refusal) (v : Verdict) → Ok tt ≡ stop_of h own v → own ≡ Ok tt
+goes_own h own v = go (not (passes h)) own
   where
-    go : (b c : Bool) → not (eqb own 0) ≡ c → pick b (refuses 2) (pick c (refuses own) (pick v.gives2 (raises 2) (pick v.gives22 (raises 22) Goes))) ≡ Goes → own ≡ 0
-    go true c q e = clash (cc)
-    go false true q e = clash (cc)
-    go false false q e = eqb-true own 0 (not-false _ q)
+    go : (b : Bool) (o : Result Unit Refusal) → Ok (tt {0}) ≡ pick b (Err (Refuses refusals.Hart)) (unless_refused o (pick v.gives2 (Err (Raises 2)) (pick v.gives22 (Err (Raises 22)) (Ok tt)))) → o ≡ Ok tt
+    go true o e = clash (cc)
+    go false (Err r) e = clash (cc)
+    go false (Ok t) e = refl
 
 -- a walk that ends with an address ends in the image
 walk_inside : (h : Hart) (base : ℕ) (bytes : List ℕ) (a : Access) → is_done (ended h (walk_for base bytes a).end).outcome ≡ true → within base (length bytes) (landed (walk_for base bytes a).end) a.width ≡ true
@@ -45,11 +45,11 @@ walk_inside h base bytes a = go (misaligned a.kind a.address a.width)
     R = run (look base bytes) (walk_of base (length bytes) a)
 
     at : (e : End) → R.end ≡ e → is_done (ended h e).outcome ≡ true → within base (length bytes) (landed e) a.width ≡ true
-    at (yields m) q d = lands_inside (look base bytes) base (length bytes) a m q
-    at (faults f) q d = clash d
+    at (Ok m) q d = lands_inside (look base bytes) base (length bytes) a m q
+    at (Err f) q d = clash d
 
-    go : (b : Bool) → is_done (ended h (pick b (record { end = faults (misalignment a); reads = [] }) R).end).outcome ≡ true
-        → within base (length bytes) (landed (pick b (record { end = faults (misalignment a); reads = [] }) R).end) a.width ≡ true
+    go : (b : Bool) → is_done (ended h (pick b (record { end = Err (misalignment a); reads = [] }) R).end).outcome ≡ true
+        → within base (length bytes) (landed (pick b (record { end = Err (misalignment a); reads = [] }) R).end) a.width ≡ true
     go true d = clash d
     go false d = at R.end refl d
 
@@ -58,40 +58,34 @@ pub done-inside : (h : Hart) (o : Operation) (base : ℕ) (bytes : List ℕ) (wi
 unfolding reach
 done-inside h o base bytes width address word = go (stop_of h own (hypervisor_access (context h))) refl
   where
-    own : ℕ
+    own : Result Unit Refusal
     own = refusal_of o base (length bytes) width
 
     a : Access
     a = access_for o (context h) (paging h) address width
 
-    go : (s : Stop) → stop_of h own (hypervisor_access (context h)) ≡ s → is_done (reached_by s h word (walk_for base bytes a)).outcome ≡ true
+    go : (s : Result Unit Halt) → s ≡ stop_of h own (hypervisor_access (context h)) → is_done (reached_by s h word (walk_for base bytes a)).outcome ≡ true
         → (known width ≡ true) × (within base (length bytes) (reached_by s h word (walk_for base bytes a)).at width ≡ true)
-    go Goes q d = ((taken o base (length bytes) width (goes_own h own (hypervisor_access (context h)) q)).form, walk_inside h base bytes a d)
-    go (Halts true n) q d = clash d
-    go (Halts false n) q d = clash d
+    go (Ok t) q d = ((taken o base (length bytes) width (goes_own h own (hypervisor_access (context h)) q)).form, walk_inside h base bytes a d)
+    go (Err (Refuses r)) q d = clash d
+    go (Err (Raises n)) q d = clash d
 
 -- ---- as the code has it
-
--- a walk as the code hands it over
-as_walked : (h : Hart) (r : Ran End) → let w = walked r in arrives h (result_of w.reached) w.reads w.count ≡ arrived h r
-as_walked h r = go r.end
-  where
-    go : (e : End) → arrives h (result_of (reached e)) (padded places r.reads) (length r.reads) ≡ arrives h e (padded places r.reads) (length r.reads)
-    go (yields m) = refl
-    go (faults f) = refl
 
 module _ (h : Hart) (o : Operation) (base : ℕ) (bytes : List ℕ) (width address word : ℕ) where
   abbrev r : Ran End
   r = walk_for base bytes (access_for o (context h) (paging h) address width)
 
-  abbrev by_stop : Stop → Reach
+  abbrev by_stop : Result Unit Halt → Reach
   by_stop s = reached_by s h word r
 
-  module _ {stop : Stop} (e : stop ≡ stop_of h (refusal_of o base (length bytes) width) (hypervisor_access (context h))) where
-    pub goes-reach : {w : Walked} → w ≡ walked r → stop ≡ Goes → arrives h (result_of w.reached) w.reads w.count ≡ reach h o base bytes width address word
-    unfolding reach
-    goes-reach {w} p g = ap (λ (x : Walked). arrives h (result_of x.reached) x.reads x.count) p ∙ as_walked h r ∙ ap by_stop (sym g ∙ e)
+  abbrev stop : Result Unit Halt
+  stop = stop_of h (refusal_of o base (length bytes) width) (hypervisor_access (context h))
 
-    pub halts_reach : {refuses : Bool} {n : ℕ} → stop ≡ Halts refuses n → unwalked (pick refuses (refused h n) (raised h n word)) ≡ reach h o base bytes width address word
-    unfolding reach
-    halts_reach g = ap by_stop (sym g ∙ e)
+  pub goes-reach : {w : Walked} {t : Unit {0}} → Ok t ≡ stop → w ≡ walked r → arrives h w.reached w.reads w.count ≡ reach h o base bytes width address word
+  unfolding reach
+  goes-reach {w} e p = ap (λ (x : Walked). arrives h x.reached x.reads x.count) p ∙ ap by_stop e
+
+  pub halts_reach : {x : Halt} → Err x ≡ stop → unwalked (halted h x word) ≡ reach h o base bytes width address word
+  unfolding reach
+  halts_reach e = ap by_stop e

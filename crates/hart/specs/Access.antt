@@ -1,17 +1,16 @@
 -- Register access (document 01, "Access"), with its instruction word (2026-02).
-use Rattle.std.specs.Prelude.{ℕ, Bool, true, false, ◌==◌}
+use Rattle.std.specs.Prelude.{ℕ, Bool, true, false, ◌==◌, Option, Some, None, Result}
 use Rattle.std.proofs.Math.ListN as list
 use Rattle.bits.specs.Field.{pick}
+use Rattle.exceptions.specs.declared.Refusal.{Refusal}
 use Rattle.registers.specs.Views.{View, lets, shown, stored_by}
 use Rattle.registers.specs.Registers.{at}
 use Rattle.table.specs.declared.Row.{Row}
-use Rattle.table.specs.declared.Found.{Found}
-use Rattle.table.specs.declared.Found.TheVariants.{At, Nothing}
 use Rattle.table.specs.Table.{table, first_at, reached}
 use Rattle.privilege.specs.Mode.{gives}
 use Rattle.csr.specs.declared.Form.{Form}
 use Rattle.csr.specs.declared.Form.TheVariants.{Read, Write, Set, Clear}
-use Rattle.csr.specs.Access.{over_range, verdict, combined}
+use Rattle.csr.specs.Access.{refusal_of, verdict, combined}
 use Rattle.hart.specs.declared.state.Hart.{Hart}
 use Rattle.hart.specs.declared.event.Outcome.{Outcome}
 use Rattle.hart.specs.declared.event.Outcome.TheVariants.{Done, Trapped, Refused, Interrupted}
@@ -24,7 +23,7 @@ use Rattle.hart.specs.Event.{done, settled, next}
 abbrev pub value_of : Outcome → ℕ → ℕ
 value_of Done old = old
 value_of (Trapped cause) old = 0
-value_of (Refused number) old = 0
+value_of (Refused r) old = 0
 value_of (Interrupted number) old = 0
 
 abbrev pub answer : Step → ℕ → Accessed
@@ -43,8 +42,8 @@ written h v x writes = record {
   regs = pick writes (list.set h.regs v.home (stored_by v (lets h.regs v) (reg h v.home) x)) h.regs;
 }
 
--- an access to the register of a row; own is the call's own refusal, or 0
-unfoldable pub access_row : Hart → ℕ → ℕ → Row → Form → ℕ → Bool → (word : ℕ) → Accessed
+-- an access to the register of a row; own is the call's own refusal
+unfoldable pub access_row : Hart → (own : Result Unit Refusal) → ℕ → Row → Form → ℕ → Bool → (word : ℕ) → Accessed
 access_row h own place row form w writes word =
     let to : View = reached (h.v == 1) (at place) in
     let old : ℕ = seen h to in
@@ -55,16 +54,16 @@ abbrev pub goes : Hart → View → Form → ℕ → Bool → Accessed
 goes h to form w writes = answer (done (written h to (combined form (seen h to) w) writes)) (seen h to)
 
 -- an unlisted number: cause 2 in every mode, so that the step that would be done never is
-abbrev pub unlisted : Hart → ℕ → (word : ℕ) → Accessed
+abbrev pub unlisted : Hart → (own : Result Unit Refusal) → (word : ℕ) → Accessed
 unlisted h own word = answer (settled h own (gives true false) word (done h)) 0
 
 -- the row that bears the number, or none
-abbrev pub access_found : Found → Hart → ℕ → Form → ℕ → Bool → (word : ℕ) → Accessed
-access_found Nothing h own form w writes word = unlisted h own word
-access_found (At place row) h own form w writes word = access_row h own place row form w writes word
+abbrev pub access_found : Option (ℕ × Row) → Hart → (own : Result Unit Refusal) → Form → ℕ → Bool → (word : ℕ) → Accessed
+access_found None h own form w writes word = unlisted h own word
+access_found (Some (place, row)) h own form w writes word = access_row h own place row form w writes word
 
 unfoldable pub access : Hart → Form → ℕ → ℕ → Bool → (word : ℕ) → Accessed
-access h form number w writes word = access_found (first_at table number 0) h (pick (over_range number) 5 0) form w writes word
+access h form number w writes word = access_found (first_at table number 0) h (refusal_of number) form w writes word
 
 abbrev pub read : Hart → ℕ → (word : ℕ) → Accessed
 read h number word = access h Read number 0 false word

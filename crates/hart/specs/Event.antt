@@ -1,14 +1,17 @@
 -- What an event comes to, and the order in which it is settled (document 01, "When the model says no").
-use Rattle.std.specs.Prelude.{ℕ, ◌+◌, ◌%◌, ◌^◌, Bool, true, false, not, ◌==◌}
+use Rattle.std.specs.Prelude.{◌≡◌, ℕ, ◌+◌, ◌%◌, ◌^◌, Bool, true, false, not, Result, Ok, Err}
 use Rattle.bits.specs.Field.{pick}
 use Rattle.privilege.specs.declared.Verdict.{Verdict}
 use Rattle.exceptions.specs.declared.Exception.{Exception}
+use Rattle.exceptions.specs.declared.Refusal.{Refusal}
+use Rattle.exceptions.specs.declared.Refusal.TheVariants as refusals
+use Rattle.exceptions.specs.Refusal.{number}
 use Rattle.hart.specs.declared.state.Hart.{Hart}
 use Rattle.hart.specs.declared.event.Outcome.{Outcome}
 use Rattle.hart.specs.declared.event.Outcome.TheVariants.{Done, Trapped, Refused, Interrupted}
 use Rattle.hart.specs.declared.event.Step.{Step}
-use Rattle.hart.specs.declared.event.Stop.{Stop}
-use Rattle.hart.specs.declared.event.Stop.TheVariants.{Goes, Halts}
+use Rattle.hart.specs.declared.event.Halt.{Halt}
+use Rattle.hart.specs.declared.event.Halt.TheVariants.{Refuses, Raises}
 use Rattle.hart.specs.Hart.{passes}
 use Rattle.hart.specs.Deliver.{delivered}
 
@@ -16,14 +19,14 @@ use Rattle.hart.specs.Deliver.{delivered}
 abbrev pub refusal : Outcome → ℕ
 refusal Done = 0
 refusal (Trapped cause) = 0
-refusal (Refused number) = number
+refusal (Refused r) = number r
 refusal (Interrupted number) = 0
 
 -- neither trapped nor refused, nor an interrupt
 abbrev pub is_done : Outcome → Bool
 is_done Done = true
 is_done (Trapped cause) = false
-is_done (Refused number) = false
+is_done (Refused r) = false
 is_done (Interrupted number) = false
 
 abbrev pub step : Hart → Outcome → Step
@@ -33,8 +36,8 @@ abbrev pub done : Hart → Step
 done h = step h Done
 
 -- a refusal leaves the hart as given
-abbrev pub refused : Hart → ℕ → Step
-refused h number = step h (Refused number)
+abbrev pub refused : Hart → Refusal → Step
+refused h r = step h (Refused r)
 
 -- any event that traps, but for a translation, delivers at once
 abbrev pub trapped : Hart → Exception → Step
@@ -52,28 +55,35 @@ raised h cause word = trapped h (plain cause word)
 abbrev pub no_value : ℕ
 no_value = 0
 
--- a refusal, or a cause that is raised
-abbrev pub refuses : ℕ → Stop
-refuses number = Halts true number
+-- the call's own refusal, else what follows it
+abbrev pub unless_refused : (own : Result Unit Refusal) → Result Unit Halt → Result Unit Halt
+unless_refused (Err r) next = Err (Refuses r)
+unless_refused (Ok t) next = next
 
-abbrev pub raises : ℕ → Stop
-raises cause = Halts false cause
-
--- order: 2, then the call's own (0: none); then the cause that the instruction gives
-abbrev pub stop_of : Hart → (own : ℕ) → Verdict → Stop
+-- order: 2, then the call's own; then the cause that the instruction gives
+abbrev pub stop_of : Hart → (own : Result Unit Refusal) → Verdict → Result Unit Halt
 stop_of h own verdict =
-    pick (not (passes h)) (refuses 2)
-    (pick (not (own == 0)) (refuses own)
-    (pick verdict.gives2 (raises 2)
-    (pick verdict.gives22 (raises 22) Goes)))
+    pick (not (passes h)) (Err (Refuses refusals.Hart))
+    (unless_refused own
+    (pick verdict.gives2 (Err (Raises 2))
+    (pick verdict.gives22 (Err (Raises 22)) (Ok tt))))
 
--- a cause is raised with the word; else the step that is done
-abbrev pub settled_by : Stop → Hart → (word : ℕ) → Step → Step
-settled_by Goes h word finished = finished
-settled_by (Halts refuses number) h word finished = pick refuses (refused h number) (raised h number word)
+-- an event that does not go on: refused, or a cause is raised with the word
+abbrev pub halted : Hart → Halt → (word : ℕ) → Step
+halted h (Refuses r) word = refused h r
+halted h (Raises cause) word = raised h cause word
 
-unfoldable pub settled : Hart → (own : ℕ) → Verdict → (word : ℕ) → Step → Step
+-- a step that is done, unless it halts before
+abbrev pub settled_by : Result Unit Halt → Hart → (word : ℕ) → Step → Step
+settled_by (Ok t) h word finished = finished
+settled_by (Err halt) h word finished = halted h halt word
+
+unfoldable pub settled : Hart → (own : Result Unit Refusal) → Verdict → (word : ℕ) → Step → Step
 settled h own verdict word finished = settled_by (stop_of h own verdict) h word finished
+
+-- a step is the only one that a call can come to (for a contract of code)
+abbrev pub Gives : (Step → Type 0) → Step → Type 0
+Gives comes finished = (s : Step) → comes s → s ≡ finished
 
 -- an instruction moves pc on by 4, wrapping
 abbrev pub next : ℕ → ℕ

@@ -1,33 +1,31 @@
 -- HLV, HLVX and HSV: a hypervisor reads and writes its guest's memory (2026-03).
-use Rattle.std.specs.Prelude.{ℕ, Bool, false, List, length}
+use Rattle.std.specs.Prelude.{ℕ, Bool, false, List, length, Result, Ok, Err}
 use Rattle.bits.specs.Field.{pick}
 use Rattle.instructions.specs.Instructions.{hypervisor_access}
 use Rattle.image.specs.Data.{loaded, stored}
 use Rattle.stages.specs.declared.Read.{Read}
 use Rattle.stages.specs.Tree.{Ran}
-use Rattle.stages.specs.Stages.{yields, faults}
 use Rattle.stages.specs.Listed.{places, unused, padded}
 use Rattle.hypervisor.specs.declared.Operation.{Operation}
 use Rattle.hypervisor.specs.declared.Operation.TheVariants.{Hlv, Hlvx, Hsv}
 use Rattle.hypervisor.specs.Hypervisor.{End, refusal_of, access_for, walk_for}
 use Rattle.hart.specs.declared.state.Hart.{Hart}
 use Rattle.hart.specs.declared.event.Step.{Step}
-use Rattle.hart.specs.declared.event.Stop.{Stop}
-use Rattle.hart.specs.declared.event.Stop.TheVariants.{Goes, Halts}
+use Rattle.hart.specs.declared.event.Halt.{Halt}
 use Rattle.hart.specs.declared.guest.Reach.{Reach}
 use Rattle.hart.specs.declared.guest.Performed.{Performed}
 use Rattle.hart.specs.Hart.{context, paging}
-use Rattle.hart.specs.Event.{is_done, done, trapped, stop_of, settled_by, moved}
+use Rattle.hart.specs.Event.{is_done, done, trapped, halted, stop_of, moved}
 
 -- "A done one moves pc on by 4"; "a fault is delivered as a trap"
 abbrev pub ended : Hart → End → Step
-ended h (yields m) = done (moved h)
-ended h (faults f) = trapped h f
+ended h (Ok m) = done (moved h)
+ended h (Err f) = trapped h f
 
 -- the machine address of its bytes, 0 where it did not come to one
 abbrev pub landed : End → ℕ
-landed (yields m) = m.0
-landed (faults f) = 0
+landed (Ok m) = m.0
+landed (Err f) = 0
 
 -- a refusal, or 22 or 2: "with the list empty"
 abbrev pub unwalked : Step → Reach
@@ -42,9 +40,9 @@ abbrev pub arrived : Hart → Ran End → Reach
 arrived h r = arrives h r.end (padded places r.reads) (length r.reads)
 
 -- a refusal, or "V=1 gives 22; U with HU=0 gives 2; both carry the word"; else the walk's
-abbrev pub reached_by : Stop → Hart → (word : ℕ) → Ran End → Reach
-reached_by Goes h word r = arrived h r
-reached_by (Halts refuses number) h word r = unwalked (settled_by (Halts refuses number) h word (ended h r.end))
+abbrev pub reached_by : Result Unit Halt → Hart → (word : ℕ) → Ran End → Reach
+reached_by (Ok t) h word r = arrived h r
+reached_by (Err halt) h word r = unwalked (halted h halt word)
 
 -- all of it but for its bytes: "Order: 2, then 1, then the call's own", then 22 and 2, then the walk "as V=1 with privilege SPVP"
 unfoldable pub reach : Hart → Operation → (base : ℕ) → List ℕ → (width address word : ℕ) → Reach

@@ -1,5 +1,5 @@
 -- MRET and SRET (document 01, "Traps and returns"), each with its instruction word (2026-02).
-use Rattle.std.specs.Prelude.{ℕ, List, [], ◌∷◌, ◌==◌}
+use Rattle.std.specs.Prelude.{ℕ, List, [], ◌∷◌, ◌==◌, Ok}
 use Rattle.bits.specs.Field.{pick, get}
 use Rattle.bits.specs.Assign.{◌after◌}
 use Rattle.registers.specs.Fields.{MPP, SPP, SPV}
@@ -42,7 +42,7 @@ abbrev pub returned_s : Hart → Hart
 returned_s h = pick (h.v == 1) (returned_vs h) (returned_hs h)
 
 unfoldable pub mret : Hart → (word : ℕ) → Step
-mret h word = settled h 0 (instructions.mret (context h)) word (done (returned_m h))
+mret h word = settled h (Ok tt) (instructions.mret (context h)) word (done (returned_m h))
 
 unfoldable pub sret : Hart → (word : ℕ) → Step
-sret h word = settled h 0 (instructions.sret (context h)) word (done (returned_s h))
+sret h word = settled h (Ok tt) (instructions.sret (context h)) word (done (returned_s h))

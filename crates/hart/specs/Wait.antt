@@ -1,5 +1,5 @@
 -- WFI and fences that don't trap only move pc (document 01, "Traps and returns"); each with its instruction word (2026-02).
-use Rattle.std.specs.Prelude.{ℕ}
+use Rattle.std.specs.Prelude.{ℕ, Ok}
 use Rattle.privilege.specs.declared.Verdict.{Verdict}
 use Rattle.instructions.specs.Instructions as instructions
 use Rattle.hart.specs.declared.state.Hart.{Hart}
@@ -8,7 +8,7 @@ use Rattle.hart.specs.Hart.{context}
 use Rattle.hart.specs.Event.{done, settled, moved}
 
 abbrev pub passing : Hart → Verdict → (word : ℕ) → Step
-passing h verdict word = settled h 0 verdict word (done (moved h))
+passing h verdict word = settled h (Ok tt) verdict word (done (moved h))
 
 unfoldable pub wfi : Hart → (word : ℕ) → Step
 wfi h word = passing h (instructions.wfi (context h)) word

@@ -4,21 +4,21 @@ ghost use Rattle.registers.specs.Places.{kept};
 ghost use Rattle.registers.specs.Views.{lets};
 ghost use Rattle.registers.specs.Registers.{count, at};
 ghost use Rattle.table.specs.Table.{row_of, view_of};
-ghost use Rattle.bits.specs.Field.{pick};
 ghost use Rattle.hart.specs.Hart.{passes};
-ghost use Rattle.hart.specs.Event.{refused, raised};
+ghost use Rattle.hart.specs.Event.{halted};
 ghost use Rattle.hart.specs.Access.{answer, goes, access_row, unlisted, access, read, write, set, clear};
 ghost use Rattle.hart.specs.Lent.{on, accessed_on};
 
 use crate::control::Control;
 use crate::event;
-use crate::event::{Outcome, Stop};
+use crate::event::{Halt, Outcome};
 use crate::state::Hart;
 use csr::Form;
+use exceptions::Refusal;
 use privilege::Verdict;
 use registers::{masks, places};
+use table::Row;
 use table::kept::Kept;
-use table::{Found, Row};
 
 // The value answered is the old one where the access was done, and 0 where it trapped or was refused.
 #[derive(Clone, Copy)]
@@ -37,8 +37,7 @@ pub struct Answer {
 }
 
 // The bits that a register's gate lets through.
-fn gate(at: Kept, regs: &[u64]) -> u64
-    requires { length regs.now ≡ kept }
+fn gate(at: Kept, regs: &[u64; places::KEPT]) -> u64
     ensures { result ≡ lets regs.now (view_of at 0) }
 {
     let gate = at.gate;
@@ -57,9 +56,10 @@ impl Control {
         form: Form,
         w: u64,
         writes: bool,
-        regs: &mut [u64],
+        regs: &mut [u64; places::KEPT],
     ) -> Answer
-        requires { (at.home < kept) × (at.shift < 64) × (length regs.old ≡ kept) }
+        requires home { at.home < kept }
+        requires shift { at.shift < 64 }
         ensures { accessed_on result regs.new ≡ goes (on self regs.old) (view_of at mask) form w writes }
     {
         let home = at.home;
@@ -77,11 +77,10 @@ impl Control {
     }
 
     // One that halts, and answers 0.
-    fn answer_halt(self, refuses: bool, number: u64, word: u32, regs: &mut [u64]) -> Answer
-        requires { length regs.old ≡ kept }
-        ensures { accessed_on result regs.new ≡ answer (pick refuses (refused (on self regs.old) number) (raised (on self regs.old) number word)) 0 }
+    fn answer_halt(self, halt: Halt, word: u32, regs: &mut [u64; places::KEPT]) -> Answer
+        ensures { accessed_on result regs.new ≡ answer (halted (on self regs.old) halt word) 0 }
     {
-        let e = self.halt(refuses, number, word, &mut *regs);
+        let e = self.halt(halt, word, &mut *regs);
         let control = e.control;
         let outcome = e.outcome;
         Answer {
@@ -95,48 +94,54 @@ impl Control {
     fn access_row(
         self,
         passed: bool,
-        own: u64,
+        own: Result<(), Refusal>,
         place: usize,
         row: Row,
         form: Form,
         w: u64,
         writes: bool,
         word: u32,
-        regs: &mut [u64],
+        regs: &mut [u64; places::KEPT],
     ) -> Answer
-        requires { (place < count) × (row ≡ row_of (at place)) × (length regs.old ≡ kept) × (passed ≡ passes (on self regs.old)) }
+        requires listed { place < count }
+        requires stands { row ≡ row_of (at place) }
+        requires checked { passed ≡ passes (on self regs.old) }
         ensures { accessed_on result regs.new ≡ access_row (on self regs.old) own place row form w writes word }
     {
         let verdict = csr::verdict(self.context(&*regs), row, writes);
-        let stop = event::stops(passed, own, verdict);
-        match stop {
-            Stop::Goes => {
+        match event::stops(passed, own, verdict) {
+            Ok(()) => {
                 let to = table::kept::reach(place, self.v == 1);
                 self.goes(to, row.mask, form, w, writes, &mut *regs)
             }
-            Stop::Halts(refuses, number) => self.answer_halt(refuses, number, word, &mut *regs),
+            Err(halt) => self.answer_halt(halt, word, &mut *regs),
         }
     }
 
     // An access to a number that no register has.
-    fn unlisted(self, passed: bool, own: u64, word: u32, regs: &mut [u64]) -> Answer
-        requires { (length regs.old ≡ kept) × (passed ≡ passes (on self regs.old)) }
+    fn unlisted(
+        self,
+        passed: bool,
+        own: Result<(), Refusal>,
+        word: u32,
+        regs: &mut [u64; places::KEPT],
+    ) -> Answer
+        requires { passed ≡ passes (on self regs.old) }
         ensures { accessed_on result regs.new ≡ unlisted (on self regs.old) own word }
     {
         let verdict = Verdict {
             gives2: true,
             gives22: false,
         };
-        let stop = event::stops(passed, own, verdict);
-        match stop {
-            Stop::Goes => {
+        match event::stops(passed, own, verdict) {
+            Ok(()) => {
                 Answer {
                     control: self,
                     outcome: Outcome::Done,
                     value: 0,
                 }
             }
-            Stop::Halts(refuses, number) => self.answer_halt(refuses, number, word, &mut *regs),
+            Err(halt) => self.answer_halt(halt, word, &mut *regs),
         }
     }
 
@@ -151,15 +156,16 @@ impl Control {
         word: u32,
         regs: &mut [u64],
     ) -> Answer
-        requires { (length regs.old ≡ kept) × (passed ≡ passes (on self regs.old)) }
+        requires whole { length regs.old ≡ kept }
+        requires checked { passed ≡ passes (on self regs.old) }
         ensures { accessed_on result regs.new ≡ access (on self regs.old) form number w writes word }
     {
-        let own = csr::refusal(number);
-        let found = table::lookup(number);
-        let Found::At(place, row) = found else {
-            return self.unlisted(passed, own, word, &mut *regs);
+        let own = csr::check(number);
+        let regs = regs.as_mut_array().unwrap();
+        let Some((place, row)) = table::lookup(number) else {
+            return self.unlisted(passed, own, word, regs);
         };
-        self.access_row(passed, own, place, row, form, w, writes, word, &mut *regs)
+        self.access_row(passed, own, place, row, form, w, writes, word, regs)
     }
 }
 

@@ -29,8 +29,7 @@ impl Control {
     }
 
     // What an instruction's permission depends on.
-    pub fn context(self, regs: &[u64]) -> Context
-        requires { length regs.now ≡ kept }
+    pub fn context(self, regs: &[u64; places::KEPT]) -> Context
         ensures { result ≡ context (on self regs.now) }
     {
         Context {

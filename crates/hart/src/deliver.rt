@@ -11,8 +11,7 @@ use exceptions::Exception;
 use registers::places;
 
 impl Control {
-    fn deliver_m(self, t: Exception, regs: &mut [u64]) -> Control
-        requires { length regs.old ≡ kept }
+    fn deliver_m(self, t: Exception, regs: &mut [u64; places::KEPT]) -> Control
         ensures { on result regs.new ≡ delivered_m (on self regs.old) t }
     {
         let tvec = regs[places::MTVEC];
@@ -30,8 +29,7 @@ impl Control {
         }
     }
 
-    fn deliver_hs(self, t: Exception, regs: &mut [u64]) -> Control
-        requires { length regs.old ≡ kept }
+    fn deliver_hs(self, t: Exception, regs: &mut [u64; places::KEPT]) -> Control
         ensures { on result regs.new ≡ delivered_hs (on self regs.old) t }
     {
         let tvec = regs[places::STVEC];
@@ -51,8 +49,7 @@ impl Control {
         }
     }
 
-    fn deliver_vs(self, t: Exception, regs: &mut [u64]) -> Control
-        requires { length regs.old ≡ kept }
+    fn deliver_vs(self, t: Exception, regs: &mut [u64; places::KEPT]) -> Control
         ensures { on result regs.new ≡ delivered_vs (on self regs.old) t }
     {
         let tvec = regs[places::VSTVEC];
@@ -69,8 +66,7 @@ impl Control {
     }
 
     // After a trap to a target.
-    fn deliver_to(self, to: Target, t: Exception, regs: &mut [u64]) -> Control
-        requires { length regs.old ≡ kept }
+    fn deliver_to(self, to: Target, t: Exception, regs: &mut [u64; places::KEPT]) -> Control
         ensures { on result regs.new ≡ delivered_to to (on self regs.old) t }
     {
         match to {
@@ -81,8 +77,7 @@ impl Control {
     }
 
     // After a trap by an exception, whatever it is.
-    pub fn deliver(self, t: Exception, regs: &mut [u64]) -> Control
-        requires { length regs.old ≡ kept }
+    pub fn deliver(self, t: Exception, regs: &mut [u64; places::KEPT]) -> Control
         ensures { on result regs.new ≡ delivered (on self regs.old) t }
     {
         let to = delivery::delivers_to(

@@ -1,24 +1,25 @@
 // What an event comes to, and the order in which it is settled.
 ghost use Rattle.std.specs.Prelude.{◌≡◌, length};
-ghost use Rattle.bits.specs.Field.{pick};
 ghost use Rattle.registers.specs.Places.{kept};
 ghost use Rattle.hart.specs.declared.state.Hart.{Hart};
 ghost use Rattle.hart.specs.Hart.{passes};
-ghost use Rattle.hart.specs.Event.{is_done, refused, trapped, plain, raised, stop_of, next, moved};
+ghost use Rattle.hart.specs.declared.event.Halt.TheVariants.{Refuses};
+ghost use Rattle.hart.specs.declared.event.Step.{Step};
+ghost use Rattle.hart.specs.Event.{is_done, done, trapped, plain, halted, stop_of, settled, Gives, next, moved};
 ghost use Rattle.hart.specs.Lent.{on, step_on};
 
 use crate::control::Control;
 use crate::state::Hart;
-use exceptions::Exception;
+use exceptions::{Exception, Refusal};
 use privilege::Verdict;
 use registers::places;
 
-// The event was done, it trapped with a cause, it was refused with document 01's number, or an interrupt was taken, by its bit in mip.
+// The event was done, it trapped with a cause, it was refused, or an interrupt was taken, by its bit in mip.
 #[derive(Clone, Copy)]
 pub enum Outcome {
     Done,
     Trapped(u64),
-    Refused(u64),
+    Refused(Refusal),
     Interrupted(u64),
 }
 
@@ -35,11 +36,19 @@ pub struct Ended {
     pub outcome: Outcome,
 }
 
-// Whether an event goes on or halts: refused with a number, or raising a cause.
+// Why an event does not go on: it is refused, or raises a cause.
 #[derive(Clone, Copy)]
-pub enum Stop {
-    Goes,
-    Halts(bool, u64),
+pub enum Halt {
+    Refuses(Refusal),
+    Raises(u64),
+}
+
+impl From<Refusal> for Halt {
+    ghost from_gives = { λ r h. h ≡ Refuses r };
+
+    fn from(refusal: Refusal) -> Halt {
+        Halt::Refuses(refusal)
+    }
 }
 
 // No cause of its own.
@@ -71,35 +80,28 @@ pub fn next(pc: u64) -> u64
     std::num::wrapping_add_u64(pc, 4)
 }
 
-// Refusal 2 where check 2 fails, then the call's own (0: none), then the cause that the verdict gives.
-pub fn stops(passed: bool, own: u64, verdict: Verdict) -> Stop
+// Refusal 2 where check 2 fails, then the call's own, then the cause that the verdict gives.
+pub fn stops(passed: bool, own: Result<(), Refusal>, verdict: Verdict) -> Result<(), Halt>
     ensures { (h : Hart) → passed ≡ passes h → result ≡ stop_of h own verdict }
 {
     if !passed {
-        return Stop::Halts(true, 2);
+        return Err(Halt::Refuses(Refusal::Hart));
     }
-    if own != 0 {
-        return Stop::Halts(true, own);
-    }
+    own?;
     if verdict.gives2 {
-        return Stop::Halts(false, 2);
+        return Err(Halt::Raises(2));
     }
     if verdict.gives22 {
-        return Stop::Halts(false, 22);
+        return Err(Halt::Raises(22));
     }
-    Stop::Goes
+    Ok(())
 }
 
 impl Outcome {
     pub fn is_done(self) -> bool
         ensures { result ≡ is_done self }
     {
-        match self {
-            Outcome::Done => true,
-            Outcome::Trapped(_) => false,
-            Outcome::Refused(_) => false,
-            Outcome::Interrupted(_) => false,
-        }
+        matches!(self, Outcome::Done)
     }
 }
 
@@ -119,8 +121,7 @@ impl Ended {
 
 impl Control {
     // The trap is delivered.
-    fn take_trap(self, t: Exception, regs: &mut [u64]) -> Ended
-        requires { length regs.old ≡ kept }
+    fn take_trap(self, t: Exception, regs: &mut [u64; places::KEPT]) -> Ended
         ensures { step_on result regs.new ≡ trapped (on self regs.old) t }
     {
         let cause = t.cause;
@@ -131,18 +132,19 @@ impl Control {
         }
     }
 
-    // An event that does not go on: it is refused with a number, or raises a cause with its instruction word.
-    pub fn halt(self, refuses: bool, number: u64, word: u32, regs: &mut [u64]) -> Ended
-        requires { length regs.old ≡ kept }
-        ensures { step_on result regs.new ≡ pick refuses (refused (on self regs.old) number) (raised (on self regs.old) number word) }
+    // An event that does not go on: it is refused, or raises a cause with its instruction word.
+    pub fn halt(self, halt: Halt, word: u32, regs: &mut [u64; places::KEPT]) -> Ended
+        ensures { step_on result regs.new ≡ halted (on self regs.old) halt word }
     {
-        if refuses {
-            return Ended {
-                control: self,
-                outcome: Outcome::Refused(number),
-            };
+        match halt {
+            Halt::Refuses(refusal) => {
+                Ended {
+                    control: self,
+                    outcome: Outcome::Refused(refusal),
+                }
+            }
+            Halt::Raises(cause) => self.take_trap(plain(cause, word as u64), &mut *regs),
         }
-        self.take_trap(plain(number, word as u64), &mut *regs)
     }
 }
 
@@ -159,24 +161,46 @@ impl Hart {
         }
     }
 
-    // Whether it goes on, with its own refusal and the verdict on its instruction.
-    pub fn stops(self, own: u64, verdict: Verdict) -> Stop
-        ensures { result ≡ stop_of self own verdict }
+    // An event that does not go on.
+    pub fn halt(self, halt: Halt, word: u32) -> Step
+        ensures { result ≡ halted self halt word }
     {
-        stops(self.passes(), own, verdict)
+        match halt {
+            Halt::Refuses(refusal) => {
+                Step {
+                    hart: self,
+                    outcome: Outcome::Refused(refusal),
+                }
+            }
+            Halt::Raises(cause) => self.take_trap(plain(cause, word as u64)),
+        }
     }
 
-    // An event that does not go on.
-    pub fn halt(self, refuses: bool, number: u64, word: u32) -> Step
-        ensures { result ≡ pick refuses (refused self number) (raised self number word) }
+    // The step that an event comes to where it goes on; else its halt, with its instruction word.
+    pub fn settle<F: FnOnce(Hart) -> Step>(
+        self,
+        own: Result<(), Refusal>,
+        verdict: Verdict,
+        word: u32,
+        finish: F,
+    ) -> Step
+        requires { stop_of self own verdict ≡ Ok tt → F.pre finish self }
+        ensures { (finished : Step) → Gives (F.post finish self) finished → result ≡ settled self own verdict word finished }
     {
-        if refuses {
-            return Step {
-                hart: self,
-                outcome: Outcome::Refused(number),
-            };
+        match stops(self.passes(), own, verdict) {
+            Ok(()) => finish(self),
+            Err(halt) => self.halt(halt, word),
         }
-        self.take_trap(plain(number, word as u64))
+    }
+
+    // The step that is done.
+    pub fn done(self) -> Step
+        ensures { result ≡ done self }
+    {
+        Step {
+            hart: self,
+            outcome: Outcome::Done,
+        }
     }
 
     // pc moves on.

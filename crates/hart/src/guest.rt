@@ -1,12 +1,11 @@
 // HLV, HLVX and HSV: a hypervisor reads and writes its guest's memory.
 ghost use Rattle.std.specs.Prelude.{◌≡◌};
-ghost use Rattle.second_stage.specs.Words.{result_of};
 ghost use Rattle.hart.specs.Guest.{unwalked, arrives, reach, performed, load, hlv, hlvx, hsv};
 
-use crate::event::{Outcome, Step, Stop};
+use crate::event;
+use crate::event::{Outcome, Step};
 use crate::state::Hart;
 use hypervisor::Operation;
-use second_stage::Reached;
 use stages::{PLACES, Read};
 use walk::Walked;
 
@@ -62,13 +61,13 @@ fn answer(r: Reach, value: u64) -> Performed
 impl Hart {
     // What a walk comes to: a fault is delivered as a trap.
     fn arrive(self, w: Walked) -> Reach
-        ensures { result ≡ arrives self (result_of w.reached) w.reads w.count }
+        ensures { result ≡ arrives self w.reached w.reads w.count }
     {
         let reads = w.reads;
         let count = w.count;
         let reached = w.reached;
         match reached {
-            Reached::At(m) => {
+            Ok(m) => {
                 Reach {
                     hart: self.moved(),
                     outcome: Outcome::Done,
@@ -77,7 +76,7 @@ impl Hart {
                     count,
                 }
             }
-            Reached::Failed(f) => {
+            Err(f) => {
                 let s = self.take_trap(f);
                 let hart = s.hart;
                 let outcome = s.outcome;
@@ -105,11 +104,10 @@ impl Hart {
         ensures { result ≡ reach self o base bytes.now width address word }
     {
         let c = self.context();
-        let own = o.refusal(base, bytes.len() as u64, width);
-        let stop = self.stops(own, instructions::hypervisor_access(c));
-        match stop {
-            Stop::Goes => self.arrive(o.walk(c, self.paging(), base, bytes, address, width)),
-            Stop::Halts(refuses, number) => unwalked(self.halt(refuses, number, word)),
+        let own = o.check(base, bytes.len() as u64, width);
+        match event::stops(self.passes(), own, instructions::hypervisor_access(c)) {
+            Ok(()) => self.arrive(o.walk(c, self.paging(), base, bytes, address, width)),
+            Err(halt) => unwalked(self.halt(halt, word)),
         }
     }
 

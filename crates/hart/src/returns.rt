@@ -2,7 +2,7 @@
 ghost use Rattle.std.specs.Prelude.{◌≡◌};
 ghost use Rattle.hart.specs.Return.{returned_m, returned_hs, returned_vs, returned_s, mret, sret};
 
-use crate::event::{Outcome, Step, Stop};
+use crate::event::Step;
 use crate::state::Hart;
 use registers::fields::{MPP, SPP, SPV};
 use registers::places;
@@ -55,30 +55,16 @@ impl Hart {
     pub fn mret(self, word: u32) -> Step
         ensures { result ≡ mret self word }
     {
-        let stop = self.stops(0, instructions::mret(self.context()));
-        match stop {
-            Stop::Goes => {
-                Step {
-                    hart: self.return_m(),
-                    outcome: Outcome::Done,
-                }
-            }
-            Stop::Halts(refuses, number) => self.halt(refuses, number, word),
-        }
+        self.settle(Ok(()), instructions::mret(self.context()), word, |h| {
+            h.return_m().done()
+        })
     }
 
     pub fn sret(self, word: u32) -> Step
         ensures { result ≡ sret self word }
     {
-        let stop = self.stops(0, instructions::sret(self.context()));
-        match stop {
-            Stop::Goes => {
-                Step {
-                    hart: self.return_s(),
-                    outcome: Outcome::Done,
-                }
-            }
-            Stop::Halts(refuses, number) => self.halt(refuses, number, word),
-        }
+        self.settle(Ok(()), instructions::sret(self.context()), word, |h| {
+            h.return_s().done()
+        })
     }
 }

@@ -3,28 +3,23 @@ ghost use Rattle.std.specs.Prelude.{◌≡◌};
 ghost use Rattle.hart.specs.Trap.{trapping, trap, ecall, ebreak};
 
 use crate::event;
-use crate::event::{Step, Stop};
+use crate::event::Step;
 use crate::state::Hart;
-use exceptions::Exception;
+use exceptions::{Exception, Refusal};
 
 impl Hart {
     // The trap is taken, unless refused.
-    fn trapping(self, own: u64, t: Exception) -> Step
+    fn trapping(self, own: Result<(), Refusal>, t: Exception) -> Step
         ensures { result ≡ trapping self own t }
     {
-        let stop = self.stops(own, event::ALLOWED);
-        match stop {
-            Stop::Goes => self.take_trap(t),
-            Stop::Halts(refuses, number) => self.halt(refuses, number, event::NO_VALUE),
-        }
+        self.settle(own, event::ALLOWED, event::NO_VALUE, |h| h.take_trap(t))
     }
 
     // A trap request.
     pub fn trap(self, t: Exception) -> Step
         ensures { result ≡ trap self t }
     {
-        let own = bits::select(traps::impossible(self.context(), t), 4, 0);
-        self.trapping(own, t)
+        self.trapping(traps::check(self.context(), t), t)
     }
 
     // ECALL.
@@ -32,13 +27,13 @@ impl Hart {
         ensures { result ≡ ecall self }
     {
         let cause = delivery::call_cause(self.context());
-        self.trapping(0, event::plain(cause, 0))
+        self.trapping(Ok(()), event::plain(cause, 0))
     }
 
     // EBREAK.
     pub fn ebreak(self) -> Step
         ensures { result ≡ ebreak self }
     {
-        self.trapping(0, delivery::breakpoint(self.v, self.pc))
+        self.trapping(Ok(()), delivery::breakpoint(self.v, self.pc))
     }
 }

@@ -1,43 +1,16 @@
 // WFI and the fences: those that don't trap only move pc.
-ghost use Rattle.std.specs.Prelude.{◌≡◌, length};
-ghost use Rattle.registers.specs.Places.{kept};
-ghost use Rattle.hart.specs.Hart.{passes};
+ghost use Rattle.std.specs.Prelude.{◌≡◌};
 ghost use Rattle.hart.specs.Wait.{passing, wfi, sfence_vma, hfence_vvma, hfence_gvma};
-ghost use Rattle.hart.specs.Lent.{on, step_on};
 
-use crate::control::Control;
-use crate::event;
-use crate::event::{Ended, Outcome, Step, Stop};
+use crate::event::Step;
 use crate::state::Hart;
 use privilege::Verdict;
-
-impl Control {
-    fn passing(mut self, passed: bool, verdict: Verdict, word: u32, regs: &mut [u64]) -> Ended
-        requires { (length regs.old ≡ kept) × (passed ≡ passes (on self regs.old)) }
-        ensures { step_on result regs.new ≡ passing (on self regs.old) verdict word }
-    {
-        let stop = event::stops(passed, 0, verdict);
-        match stop {
-            Stop::Goes => {
-                self.pc = event::next(self.pc);
-                Ended {
-                    control: self,
-                    outcome: Outcome::Done,
-                }
-            }
-            Stop::Halts(refuses, number) => self.halt(refuses, number, word, &mut *regs),
-        }
-    }
-}
 
 impl Hart {
     fn passing(self, verdict: Verdict, word: u32) -> Step
         ensures { result ≡ passing self verdict word }
     {
-        let passed = self.passes();
-        let mut regs = self.regs;
-        let e = self.control().passing(passed, verdict, word, &mut regs);
-        e.on(regs)
+        self.settle(Ok(()), verdict, word, |h| h.moved().done())
     }
 
     pub fn wfi(self, word: u32) -> Step

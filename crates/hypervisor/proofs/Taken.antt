@@ -2,11 +2,12 @@
 use mathlib.Core.Path.{◌≡◌, refl}
 use mathlib.Core.Bool.{Bool, true, false, ◌||◌, not}
 use Prim.Native.Nat.{ℕ, ◌+◌, ◌^◌, ◌≤◌}
-use native.Mathlib.Omega.{arith}
 use lib.Dec.{eqb}
 use borrow.Author.Tests.{not-false}
 use Rattle.bits.specs.Field.{pick}
 use Rattle.bits.proofs.Bools.{clash}
+use Rattle.std.specs.Prelude.{Ok, Err}
+use Rattle.exceptions.specs.declared.Refusal.TheVariants as refusals
 use Rattle.privilege.specs.declared.Context.{Context}
 use Rattle.image.specs.Image.{unfit}
 use Rattle.image.proofs.Tests.{fit}
@@ -36,13 +37,13 @@ pub record Taken (base len width : ℕ) : Type 0 where
   pub ends : base + len ≤ 2 ^ 56
   pub form : known width ≡ true
 
-pub taken : (o : Operation) (base len width : ℕ) → refusal_of o base len width ≡ 0 → Taken base len width
+pub taken : (o : Operation) (base len width : ℕ) → refusal_of o base len width ≡ Ok tt → Taken base len width
 unfolding refusal_of
 taken o base len width = go (unfit base len) (not (offered o width)) refl refl
   where
-    go : (b c : Bool) → unfit base len ≡ b → not (offered o width) ≡ c → ◌≡◌ {A = ℕ} (pick b 1 (pick c 3 0)) 0 → Taken base len width
-    go true c p q e = absurd (omega (arith, e))
-    go false true p q e = absurd (omega (arith, e))
+    go : (b c : Bool) → unfit base len ≡ b → not (offered o width) ≡ c → pick b (Err refusals.Image) (pick c (Err refusals.Access) (Ok (tt {0}))) ≡ Ok tt → Taken base len width
+    go true c p q e = clash (cc)
+    go false true p q e = clash (cc)
     go false false p q e = record { image = p; ends = fit base len p; form = offered-known o width (not-false _ q) }
 
 -- its access goes by tables of at most five levels

@@ -1,7 +1,10 @@
 -- The hypervisor loads and stores: which there are, and the walk of their access, made for the guest (2026-03).
-use Rattle.std.specs.Prelude.{Bool, ◌||◌, not, List, [], ℕ, eqb, length}
+use Rattle.std.specs.Prelude.{Bool, ◌||◌, not, List, [], ℕ, eqb, length, Result, Ok, Err}
+use Rattle.exceptions.specs.declared.Exception.{Exception}
 use Rattle.bits.specs.Field.{pick}
 use Rattle.privilege.specs.declared.Context.{Context}
+use Rattle.exceptions.specs.declared.Refusal.{Refusal}
+use Rattle.exceptions.specs.declared.Refusal.TheVariants as refusals
 use Rattle.image.specs.Image.{unfit}
 use Rattle.rules.specs.declared.Kind.{Kind}
 use Rattle.rules.specs.declared.Kind.TheVariants.{Load, Store}
@@ -14,7 +17,7 @@ use Rattle.access.specs.Faults.{misalignment}
 use Rattle.effective.specs.declared.Paging.{Paging}
 use Rattle.effective.specs.Effective.{guest_access}
 use Rattle.stages.specs.Tree.{Ran, run}
-use Rattle.stages.specs.Stages.{Result, faults, look, walk_of}
+use Rattle.stages.specs.Stages.{look, walk_of}
 use Rattle.hypervisor.specs.declared.Operation.{Operation}
 use Rattle.hypervisor.specs.declared.Operation.TheVariants.{Hlv, Hlvx, Hsv}
 
@@ -36,9 +39,9 @@ right_needed o = by_operation o Read Execute Write
 abbrev pub offered : Operation → ℕ → Bool
 offered o width = by_operation o (known width) (eqb width 2 || eqb width 4) (known width)
 
--- "Order: 2, then 1, then the call's own", which is 3: the number after 2; 0: none
-unfoldable pub refusal_of : Operation → (base len width : ℕ) → ℕ
-refusal_of o base len width = pick (unfit base len) 1 (pick (not (offered o width)) 3 0)
+-- "Order: 2, then 1, then the call's own", which is 3: the refusal after 2
+unfoldable pub refusal_of : Operation → (base len width : ℕ) → Result Unit Refusal
+refusal_of o base len width = pick (unfit base len) (Err refusals.Image) (pick (not (offered o width)) (Err refusals.Access) (Ok tt))
 
 -- "They translate as V=1 with privilege SPVP": its access, made for the guest
 abbrev pub access_for : Operation → Context → Paging → (address width : ℕ) → Access
@@ -46,10 +49,10 @@ access_for o c p address width = guest_access c p (kind_of o) (right_needed o) a
 
 -- how its walk ends: at a machine address, or with a fault
 abbrev pub End : Type 0
-End = Result Machine
+End = Result Machine Exception
 
 -- "a misaligned one its fault, .. with the list empty", else its walk over the image
 unfoldable pub walk_for : ℕ → List ℕ → Access → Ran End
 walk_for base bytes a =
-    pick (misaligned a.kind a.address a.width) (record { end = faults (misalignment a); reads = [] })
+    pick (misaligned a.kind a.address a.width) (record { end = Err (misalignment a); reads = [] })
     (run (look base bytes) (walk_of base (length bytes) a))

@@ -6,9 +6,9 @@ ghost use Rattle.walk.specs.Walked.{walked};
 ghost use Rattle.hypervisor.specs.Hypervisor.{kind_of, right_needed, offered, refusal_of, access_for, walk_for};
 
 use effective::Paging;
+use exceptions::Refusal;
 use privilege::Context;
 use rules::{Kind, Right};
-use second_stage::Reached;
 use walk::Walked;
 
 #[derive(Clone, Copy)]
@@ -51,17 +51,17 @@ impl Operation {
         }
     }
 
-    // The number of the refusal that follows check 2; 0: none.
-    pub fn refusal(self, base: u64, len: u64, width: u64) -> u64
+    // The refusal that follows check 2.
+    pub fn check(self, base: u64, len: u64, width: u64) -> Result<(), Refusal>
         ensures { result ≡ refusal_of self base len width }
     {
         if image::refused(base, len) {
-            return 1;
+            return Err(Refusal::Image);
         }
         if !self.offers(width) {
-            return 3;
+            return Err(Refusal::Access);
         }
-        0
+        Ok(())
     }
 
     // The walk of the access, or its misalignment.
@@ -74,7 +74,7 @@ impl Operation {
         address: u64,
         width: u64,
     ) -> Walked
-        requires { refusal_of self base (length bytes.now) width ≡ 0 }
+        requires { refusal_of self base (length bytes.now) width ≡ Ok tt }
         ensures { result ≡ walked (walk_for base bytes.now (access_for self c p address width)) }
     {
         let kind = self.kind();
@@ -83,7 +83,7 @@ impl Operation {
             return Walked {
                 reads: walk::none(),
                 count: 0,
-                reached: Reached::Failed(a.misalignment()),
+                reached: Err(a.misalignment()),
             };
         }
         walk::walk(base, bytes, a)

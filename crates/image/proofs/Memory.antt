@@ -1,9 +1,8 @@
 -- What a store leaves, and what a load then finds. Assumes nothing.
-use Rattle.std.proofs.Common.{◌≡◌, ℕ, zero, suc, ◌+◌, ◌-◌, ◌*◌, ◌/◌, ◌%◌, ◌^◌, ◌<◌, ◌≤◌, Bool, true, false, ◌⊎◌, List, [], ◌∷◌, ◌++◌, length, get_or, take, drop, set, refl, ap, ◌∙◌, inl, inr, append_assoc, add-zero, arith, length-set, length-take-le, drop-cons, get_or-set_other, get_or-set_same, take_at, drop_at, shr-shr}
+use Rattle.std.proofs.Common.{◌≡◌, ℕ, zero, suc, ◌+◌, ◌-◌, ◌*◌, ◌/◌, ◌%◌, ◌^◌, ◌<◌, ◌≤◌, Bool, true, false, ◌⊎◌, List, [], ◌∷◌, ◌++◌, length, get_or, take, drop, set, refl, ap, ◌∙◌, inl, inr, append_assoc, add-zero, arith, length-set, length-take-le, drop-cons, get_or-set_other, get_or-set_same, take_at, drop_at, shr-shr, Some, None}
 use lib.Pow.{mod-pow-add}
 use lib.Seq.{sets, sets-eq, length-sets}
 use Rattle.bits.specs.Field.{pick}
-use Rattle.image.specs.declared.Entry.TheVariants.{Value, Outside}
 use Rattle.image.specs.Image.{within, eight, entry}
 use Rattle.image.specs.Data.{little, low_bytes, bytes_at, stored}
 use Rattle.image.proofs.Tests.{within_facts}
@@ -103,8 +102,8 @@ module _ (base : ℕ) (s : List ℕ) (address width value : ℕ) where
           let b : (i : ℕ) → o ≤ i → i < o + 8 → get_or s' i 0 ≡ get_or s i 0 = λ i p q. stored_apart i (apart l h i p q) in
           rw (b o (omega arith) (omega arith), b (o + 1) (omega arith) (omega arith), b (o + 2) (omega arith) (omega arith), b (o + 3) (omega arith) (omega arith), b (o + 4) (omega arith) (omega arith), b (o + 4 + 1) (omega arith) (omega arith), b (o + 4 + 2) (omega arith) (omega arith), b (o + 4 + 3) (omega arith) (omega arith))
 
-      go : (b : Bool) → within base (length s) m 8 ≡ b → pick b (Value (eight s' o)) Outside ≡ pick b (Value (eight s o)) Outside
-      go true e = ap Value (eights (within_facts base (length s) m 8 e).0)
+      go : (b : Bool) → within base (length s) m 8 ≡ b → pick b (Some (eight s' o)) None ≡ pick b (Some (eight s o)) None
+      go true e = ap Some (eights (within_facts base (length s) m 8 e).0)
       go false e = refl
 
 -- two images that have the same bytes there load the same

@@ -1,8 +1,6 @@
 -- The image: a base and a run of bytes.
-use Rattle.std.specs.Prelude.{ℕ, ◌+◌, ◌-◌, ◌*◌, ◌%◌, ◌^◌, Bool, not, ◌&&◌, ◌||◌, List, length, ◌==◌, nat_le, nat_lt, slice_index}
+use Rattle.std.specs.Prelude.{ℕ, ◌+◌, ◌-◌, ◌*◌, ◌%◌, ◌^◌, Bool, not, ◌&&◌, ◌||◌, List, length, ◌==◌, nat_le, nat_lt, slice_index, Option, Some, None}
 use Rattle.bits.specs.Field.{pick}
-use Rattle.image.specs.declared.Entry.{Entry}
-use Rattle.image.specs.declared.Entry.TheVariants.{Value, Outside}
 
 -- Refusal 1: "image over 67,108,864 bytes, base or length not a multiple of 4096, or base + length over 2^56".
 unfoldable pub unfit : ℕ → ℕ → Bool
@@ -21,5 +19,5 @@ abbrev pub eight : List ℕ → ℕ → ℕ
 eight s at = four s at + four s (at + 4) * 2 ^ 32
 
 -- The entry at a machine address: eight bytes, if they lie in the image.
-unfoldable pub entry : ℕ → List ℕ → ℕ → Entry
-entry base s address = pick (within base (length s) address 8) (Value (eight s (address - base))) Outside
+unfoldable pub entry : ℕ → List ℕ → ℕ → Option ℕ
+entry base s address = pick (within base (length s) address 8) (Some (eight s (address - base))) None

@@ -6,13 +6,6 @@ ghost use Rattle.image.specs.Image.{unfit, within, four, eight, entry};
 
 pub mod data;
 
-// What stands at a machine address: an entry's value, or nothing of the image.
-#[derive(Clone, Copy)]
-pub enum Entry {
-    Value(u64),
-    Outside,
-}
-
 // Whether an image is refused as 1.
 pub fn refused(base: u64, len: u64) -> bool
     ensures { result ≡ unfit base len }
@@ -58,14 +51,14 @@ fn load(s: &[u8], at: usize) -> u64
     four(s, at) | (four(s, at + 4) << 32)
 }
 
-// The entry at a machine address.
-pub fn fetch(base: u64, bytes: &[u8], address: u64) -> Entry
+// The entry at a machine address; none stands outside the image.
+pub fn fetch(base: u64, bytes: &[u8], address: u64) -> Option<u64>
     ensures { result ≡ entry base bytes.now address }
 {
     if inside(base, bytes.len() as u64, address, 8) {
-        return Entry::Value(load(bytes, (address - base) as usize));
+        return Some(load(bytes, (address - base) as usize));
     }
-    Entry::Outside
+    None
 }
 
 // The first offset at which no entry stands.
@@ -79,13 +72,13 @@ pub fn limit(len: u64) -> u64
 }
 
 // The entry at a machine address, by one comparison: an address below the base wraps to an offset past the limit.
-pub fn fetch_below(base: u64, limit: u64, bytes: &[u8], address: u64) -> Entry
+pub fn fetch_below(base: u64, limit: u64, bytes: &[u8], address: u64) -> Option<u64>
     requires { (base + length bytes.now ≤ 2 ^ 56) × (limit ≡ length bytes.now - 7) }
     ensures { result ≡ entry base bytes.now address }
 {
     let offset = std::num::wrapping_sub_u64(address, base);
     if offset < limit {
-        return Entry::Value(load(bytes, offset as usize));
+        return Some(load(bytes, offset as usize));
     }
-    Entry::Outside
+    None
 }

@@ -5,6 +5,7 @@ use mathlib.Core.List.{List, [], ◌∷◌}
 use mathlib.Core.Logic.{inl, inr}
 use Prim.Native.Nat.{ℕ, ◌^◌, ◌-◌, ◌<◌}
 use lib.Bits.{bit_and, and_lt}
+use Rattle.std.specs.Prelude.{None, find}
 use Rattle.bits.specs.Field.{pick, top, has}
 use Rattle.bits.proofs.Bools.{and_assoc}
 use Rattle.bits.proofs.Single.{has-and, has_without}
@@ -12,11 +13,11 @@ use Rattle.privilege.specs.declared.Context.{Context}
 use Rattle.delivery.specs.declared.Target.{Target}
 use Rattle.delivery.specs.declared.Target.TheVariants.{M, HS, VS}
 use Rattle.interrupts.specs.declared.Lines.{Lines}
-use Rattle.interrupts.specs.Interrupts.{waits, goes, admits, due, order, first_of}
+use Rattle.interrupts.specs.Interrupts.{waits, goes, admits, due, order}
 use Rattle.interrupts.specs.First.{In}
 
 -- two tests that agree on a list find the same
-pub first-same : (p q : ℕ → Bool) (ns : List ℕ) → ((n : ℕ) → In n ns → p n ≡ q n) → first_of p ns ≡ first_of q ns
+pub first-same : (p q : ℕ → Bool) (ns : List ℕ) → ((n : ℕ) → In n ns → p n ≡ q n) → find p ns ≡ find q ns
 first-same p q [] e = refl
 first-same p q (n ∷ ns) e = rw (e n (inl refl), first-same p q ns (λ m i. e m (inr i)))
 
@@ -25,11 +26,11 @@ pub Holds : Lines → Target → ℕ → Type 0
 Holds l to set = (n : ℕ) → has n set ≡ (waits l n && goes l to n)
 
 pub level-first : (c : Context) (l : Lines) (to : Target) (set : ℕ) → Holds l to set
-    → pick (admits c l.vsstatus to) (first_of (λ n. has n set) order) 0 ≡ first_of (due c l to) order
+    → pick (admits c l.vsstatus to) (find (λ n. has n set) order) None ≡ find (due c l to) order
 unfolding Holds
 level-first c l to set e = rw (first-same (λ n. has n set) (λ n. waits l n && goes l to n) order (λ n i. e n)) (go (admits c l.vsstatus to))
   where
-    go : (a : Bool) → pick a (first_of (λ n. waits l n && goes l to n) order) 0 ≡ first_of (λ n. a && (waits l n && goes l to n)) order
+    go : (a : Bool) → pick a (find (λ n. waits l n && goes l to n) order) None ≡ find (λ n. a && (waits l n && goes l to n)) order
     go true = refl
     go false = refl
 

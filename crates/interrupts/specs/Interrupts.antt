@@ -1,7 +1,8 @@
 -- Which interrupt is due, and what is delivered (2026-01).
-use Rattle.std.specs.Prelude.{Bool, false, ◌&&◌, ◌||◌, not, List, [], ◌∷◌, ℕ, ◌-◌, ◌^◌, eqb}
+use Rattle.std.specs.Prelude.{Bool, false, ◌&&◌, ◌||◌, not, List, [], ◌∷◌, ℕ, ◌-◌, ◌^◌, Option, None, option_map, find}
+use Rattle.std.specs.Option.{option_or}
 use Rattle.std.specs.Int.Bits.{bit_or}
-use Rattle.bits.specs.Field.{pick, has}
+use Rattle.bits.specs.Field.{has}
 use Rattle.registers.specs.Fields.{MIE, SIE}
 use Rattle.exceptions.specs.declared.Exception.{Exception}
 use Rattle.privilege.specs.declared.Context.{Context}
@@ -9,8 +10,6 @@ use Rattle.privilege.specs.Mode.{is_u, is_hs, is_m, is_vu, is_vs, is_set}
 use Rattle.delivery.specs.declared.Target.{Target}
 use Rattle.delivery.specs.declared.Target.TheVariants.{M, HS, VS}
 use Rattle.interrupts.specs.declared.Lines.{Lines}
-use Rattle.interrupts.specs.declared.Due.{Due}
-use Rattle.interrupts.specs.declared.Due.TheVariants.{To, Nothing}
 
 -- pending, and enabled
 abbrev pub waits : Lines → ℕ → Bool
@@ -40,18 +39,13 @@ levels = M ∷ HS ∷ VS ∷ []
 abbrev pub order : List ℕ
 order = 11 ∷ 3 ∷ 7 ∷ 9 ∷ 1 ∷ 5 ∷ 10 ∷ 2 ∷ 6 ∷ []
 
--- the first of a list that passes a test; 0, which is no interrupt, where none does
-abbrev pub first_of : (ℕ → Bool) → List ℕ → ℕ
-first_of test [] = 0
-first_of test (n ∷ ns) = pick (test n) n (first_of test ns)
-
 -- the first level that has an interrupt, with it
-abbrev pub first_level : (Target → ℕ) → List Target → Due
-first_level at [] = Nothing
-first_level at (to ∷ more) = pick (eqb (at to) 0) (first_level at more) (To to (at to))
+abbrev pub first_level : (Target → Option ℕ) → List Target → Option (Target × ℕ)
+first_level at [] = None
+first_level at (to ∷ more) = option_or (option_map (λ n. (to, n)) (at to)) (first_level at more)
 
-unfoldable pub chosen : Context → Lines → Due
-chosen c l = first_level (λ to. first_of (due c l to) order) levels
+unfoldable pub chosen : Context → Lines → Option (Target × ℕ)
+chosen c l = first_level (λ to. find (due c l to) order) levels
 
 -- "Into VS, causes 10, 2, 6 are written as 9, 1, 5"
 abbrev pub written : Target → ℕ → ℕ
@@ -64,7 +58,7 @@ abbrev pub interruption : Target → ℕ → Exception
 interruption to n = record { cause = bit_or (2 ^ 63) (written to n); value = 0; value2 = 0; word = 0; flag = false }
 
 -- what each level has, where the three are given (for a contract of code)
-abbrev pub of : (m hs vs : ℕ) → Target → ℕ
+abbrev pub of : (m hs vs : Option ℕ) → Target → Option ℕ
 of m hs vs M = m
 of m hs vs HS = hs
 of m hs vs VS = vs

@@ -1,9 +1,9 @@
 // Which interrupt is due, and what is delivered.
 #![tactic(auto)]
 
-ghost use Rattle.std.specs.Prelude.{◌≡◌};
+ghost use Rattle.std.specs.Prelude.{◌≡◌, find};
 ghost use Rattle.bits.specs.Field.{pick, has};
-ghost use Rattle.interrupts.specs.Interrupts.{admits, levels, order, first_of, of, first_level, chosen, written, interruption};
+ghost use Rattle.interrupts.specs.Interrupts.{admits, levels, order, of, first_level, chosen, written, interruption};
 
 use delivery::Target;
 use exceptions::Exception;
@@ -20,12 +20,8 @@ pub struct Lines {
     pub vsstatus: u64,
 }
 
-// The interrupt that is due, by its bit in mip, and the level that it goes to.
-#[derive(Clone, Copy)]
-pub enum Due {
-    To(Target, u64),
-    Nothing,
-}
+// The manual's order of the interrupts.
+const ORDER: [u64; 9] = [11, 3, 7, 9, 1, 5, 10, 2, 6];
 
 // Whether a level lets its interrupts through.
 fn admits(c: Context, vsstatus: u64, to: Target) -> bool
@@ -40,47 +36,35 @@ fn admits(c: Context, vsstatus: u64, to: Target) -> bool
     }
 }
 
-// An interrupt, if it is in the set, else another.
-fn prefer(n: u64, set: u64, other: u64) -> u64
-    ensures { result ≡ pick (has n set) n other }
+// The interrupt of a set that comes first in the manual's order.
+fn first(set: u64) -> Option<u64>
+    ensures { result ≡ find (λ n. has n set) order }
 {
-    bits::select(bits::has(n, set), n, other)
+    ORDER.iter().copied().find(|n| bits::has(*n, set))
 }
 
-// The interrupt of a set that comes first in the manual's order, or 0.
-fn first(set: u64) -> u64
-    ensures { result ≡ first_of (λ n. has n set) order }
+// The interrupt of a set that a level lets through.
+fn level(c: Context, vsstatus: u64, to: Target, set: u64) -> Option<u64>
+    ensures { result ≡ pick (admits c vsstatus to) (find (λ n. has n set) order) None }
 {
-    let of_vs = prefer(10, set, prefer(2, set, prefer(6, set, 0)));
-    let of_s = prefer(9, set, prefer(1, set, prefer(5, set, of_vs)));
-    prefer(11, set, prefer(3, set, prefer(7, set, of_s)))
-}
-
-// The interrupt of a set that a level lets through, or 0.
-fn level(c: Context, vsstatus: u64, to: Target, set: u64) -> u64
-    ensures { result ≡ pick (admits c vsstatus to) (first_of (λ n. has n set) order) 0 }
-{
-    bits::select(admits(c, vsstatus, to), first(set), 0)
+    if !admits(c, vsstatus, to) {
+        return None;
+    }
+    first(set)
 }
 
 // The first level of three that has an interrupt, with it.
-fn first_level(m: u64, hs: u64, vs: u64) -> Due
+fn first_level(m: Option<u64>, hs: Option<u64>, vs: Option<u64>) -> Option<(Target, u64)>
     ensures { result ≡ first_level (of m hs vs) levels }
 {
-    if m != 0 {
-        return Due::To(Target::M, m);
-    }
-    if hs != 0 {
-        return Due::To(Target::HS, hs);
-    }
-    if vs != 0 {
-        return Due::To(Target::VS, vs);
-    }
-    Due::Nothing
+    let m = m.map(|n| (Target::M, n));
+    let hs = hs.map(|n| (Target::HS, n));
+    let vs = vs.map(|n| (Target::VS, n));
+    m.or(hs).or(vs)
 }
 
-// The interrupt that is due.
-pub fn choose(c: Context, l: Lines) -> Due
+// The interrupt that is due, by its bit in mip, and the level that it goes to.
+pub fn choose(c: Context, l: Lines) -> Option<(Target, u64)>
     ensures { result ≡ chosen c l }
 {
     let waiting = l.mip & l.mie;
@@ -96,14 +80,8 @@ fn written(to: Target, n: u64) -> u64
     ensures { result ≡ written to n }
 {
     match to {
-        Target::M => n,
-        Target::HS => n,
-        Target::VS => {
-            if n == 0 {
-                return 0;
-            }
-            n - 1
-        }
+        Target::M | Target::HS => n,
+        Target::VS => n.saturating_sub(1),
     }
 }
 

@@ -3,8 +3,9 @@ use mathlib.Core.Path.{◌≡◌, refl}
 use mathlib.Core.Bool.{Bool}
 use Prim.Native.Nat.{ℕ, ◌<◌}
 use native.Mathlib.Omega.{arith}
-use Rattle.table.specs.declared.Found.{Found}
-use Rattle.table.specs.declared.Found.TheVariants.{At, Nothing}
+use Rattle.std.specs.Prelude.{Result, Option, Some, None}
+use Rattle.exceptions.specs.declared.Refusal.{Refusal}
+use Rattle.table.specs.declared.Row.{Row}
 use Rattle.table.specs.Table.{table, first_at}
 use Rattle.hart.specs.declared.state.Hart.{Hart}
 use Rattle.hart.specs.declared.event.Outcome.{Outcome}
@@ -17,7 +18,7 @@ use Rattle.invariants.specs.Events.{Event, run}
 use Rattle.invariants.proofs.Comes.{Comes, refuses, traps, mrets, srets_VS, srets_HS, moves, writes, interrupts, rests, comes}
 
 as_given : (h : Hart) (s : Step) → Comes h s → 0 < refusal s.outcome → s.hart ≡ h
-as_given h s (refuses m z) r = refl
+as_given h s (refuses x) r = refl
 as_given h s (traps a t) r = absurd (omega arith)
 as_given h s (mrets a m) r = absurd (omega arith)
 as_given h s (srets_VS a v) r = absurd (omega arith)
@@ -34,15 +35,15 @@ refusal_as_given e h = as_given h (run e h) (comes e h)
 -- the value answered is the old one only where the access was done
 pub record Answers (o : Outcome) (value : ℕ) : Type 0 where
   pub trapped : (cause : ℕ) → o ≡ Trapped cause → value ≡ 0
-  pub refused : (number : ℕ) → o ≡ Refused number → value ≡ 0
+  pub refused : (r : Refusal) → o ≡ Refused r → value ≡ 0
 
 answers : (o : Outcome) (old : ℕ) → Answers o (value_of o old)
-answers o old = record { trapped = λ cause e. rw e; refused = λ number e. rw e }
+answers o old = record { trapped = λ cause e. rw e; refused = λ r e. rw e }
 
-found_answers : (found : Found) (h : Hart) (own : ℕ) (form : Form) (w : ℕ) (b : Bool) (word : ℕ) → Answers (access_found found h own form w b word).outcome (access_found found h own form w b word).value
+found_answers : (found : Option (ℕ × Row)) (h : Hart) (own : Result Unit Refusal) (form : Form) (w : ℕ) (b : Bool) (word : ℕ) → Answers (access_found found h own form w b word).outcome (access_found found h own form w b word).value
 unfolding access_row
-found_answers Nothing h own form w b word = answers _ 0
-found_answers (At place row) h own form w b word = answers _ _
+found_answers None h own form w b word = answers _ 0
+found_answers (Some (place, row)) h own form w b word = answers _ _
 
 -- an access that traps or is refused answers 0
 pub access_answers : (h : Hart) (form : Form) (number w : ℕ) (b : Bool) (word : ℕ) → Answers (access h form number w b word).outcome (access h form number w b word).value

@@ -1,12 +1,15 @@
 -- Loading back what was stored gives it. Assumes nothing.
+use Rattle.std.specs.Prelude.{Ok, Err}
 use mathlib.Core.Path.{◌≡◌, refl, sym, ap, ◌∙◌}
 use mathlib.Core.Bool.{Bool, true, false, not}
 use mathlib.Core.List.{List, [], ◌∷◌}
 use mathlib.Core.Logic.{◌⊎◌}
 use Prim.Native.Nat.{ℕ, ◌+◌, ◌*◌, ◌%◌, ◌^◌, ◌≤◌}
 use native.Mathlib.Omega.{arith}
-use lib.Dec.{eqb}
 use lib.ListN.{length}
+use Rattle.std.specs.Prelude.{Result, Ok, Err}
+use Rattle.exceptions.specs.declared.Refusal.{Refusal}
+use Rattle.exceptions.specs.declared.Refusal.TheVariants as refusals
 use Rattle.bits.specs.Field.{pick}
 use Rattle.bits.proofs.Bools.{clash}
 use Rattle.registers.specs.Places.{kept}
@@ -20,7 +23,7 @@ use Rattle.access.specs.declared.Machine.{Machine}
 use Rattle.access.specs.Widths.{misaligned}
 use Rattle.stages.specs.declared.Read.{Read}
 use Rattle.stages.specs.Tree.{Ran, run}
-use Rattle.stages.specs.Stages.{yields, faults, look, walk_of}
+use Rattle.stages.specs.Stages.{look, walk_of}
 use Rattle.stages.specs.Through.{Each, Agree}
 use Rattle.stages.proofs.Ends.{lands_inside}
 use Rattle.stages.proofs.Images.{same-walk}
@@ -29,11 +32,11 @@ use Rattle.hypervisor.specs.declared.Operation.TheVariants.{Hlv, Hsv}
 use Rattle.hypervisor.specs.Hypervisor.{End, kind_of, refusal_of, access_for, walk_for}
 use Rattle.hart.specs.declared.state.Hart.{Hart}
 use Rattle.hart.specs.declared.event.Outcome.TheVariants.{Done}
-use Rattle.hart.specs.declared.event.Stop.{Stop}
-use Rattle.hart.specs.declared.event.Stop.TheVariants.{Goes, Halts}
+use Rattle.hart.specs.declared.event.Halt.{Halt}
+use Rattle.hart.specs.declared.event.Halt.TheVariants.{Refuses, Raises}
 use Rattle.hart.specs.declared.guest.Reach.{Reach}
 use Rattle.hart.specs.Hart.{context, paging, passes}
-use Rattle.hart.specs.Event.{is_done, refuses, raises, stop_of, moved}
+use Rattle.hart.specs.Event.{is_done, unless_refused, stop_of, moved}
 use Rattle.hart.specs.Guest.{ended, arrived, reached_by, reach, load, hlv, hsv}
 use Rattle.invariants.specs.Events as events
 use Rattle.invariants.specs.Events.{run as run-event}
@@ -41,13 +44,13 @@ use Rattle.invariants.proofs.Passing.{accepted_passes}
 use Rattle.invariants.proofs.Reached.{listed, listed-walk, misaligned_one}
 
 -- an event that goes on does so in any hart that passes, with the same refusal and verdict
-goes_too : (h h' : Hart) (own : ℕ) (v : Verdict) → passes h' ≡ true → stop_of h own v ≡ Goes → stop_of h' own v ≡ Goes
+goes_too : (h h' : Hart) (own : Result Unit Refusal) (v : Verdict) → passes h' ≡ true → stop_of h own v ≡ Ok tt → stop_of h' own v ≡ Ok tt
 goes_too h h' own v p = rw p (go (passes h))
   where
-    rest : Stop
-    rest = pick (not (eqb own 0)) (refuses own) (pick v.gives2 (raises 2) (pick v.gives22 (raises 22) Goes))
+    rest : Result Unit Halt
+    rest = unless_refused own (pick v.gives2 (Err (Raises 2)) (pick v.gives22 (Err (Raises 22)) (Ok tt)))
 
-    go : (b : Bool) → pick (not b) (refuses 2) rest ≡ Goes → rest ≡ Goes
+    go : (b : Bool) → pick (not b) (Err (Refuses refusals.Hart)) rest ≡ Ok (tt {0}) → rest ≡ Ok tt
     go true e = e
     go false e = clash (cc)
 
@@ -66,7 +69,7 @@ module _ (h : Hart) (base : ℕ) (bytes : List ℕ) (width address word : ℕ) w
   abbrev ran : Ran End
   ran = run (look base bytes) (walk_of base (length bytes) stores)
 
-  abbrev stop : Stop
+  abbrev stop : Result Unit Halt
   stop = stop_of h (refusal_of Hsv base (length bytes) width) (hypervisor_access (context h))
 
   abbrev r : Reach
@@ -75,26 +78,26 @@ module _ (h : Hart) (base : ℕ) (bytes : List ℕ) (width address word : ℕ) w
   -- a store that was done went on, to an address
   record Went : Type 0 where
     m : Machine
-    goes : stop ≡ Goes
+    goes : stop ≡ Ok tt
     whole : misaligned (kind_of Hsv) address width ≡ false
-    ends : ran.end ≡ yields m
+    ends : ran.end ≡ Ok m
 
   went : is_done r.outcome ≡ true → Went
   unfolding reach walk_for
   went = by_stop stop refl
     where
-      by_end : stop ≡ Goes → misaligned (kind_of Hsv) address width ≡ false → (e : End) → ran.end ≡ e → is_done (ended h e).outcome ≡ true → Went
-      by_end g w (yields m) e d = record { m = m; goes = g; whole = w; ends = e }
-      by_end g w (faults f) e d = clash d
+      by_end : stop ≡ Ok (tt {0}) → misaligned (kind_of Hsv) address width ≡ false → (e : End) → ran.end ≡ e → is_done (ended h e).outcome ≡ true → Went
+      by_end g w (Ok m) e d = record { m = m; goes = g; whole = w; ends = e }
+      by_end g w (Err f) e d = clash d
 
-      by_whole : stop ≡ Goes → (b : Bool) → misaligned (kind_of Hsv) address width ≡ b → is_done (ended h (pick b (misaligned_one stores) ran).end).outcome ≡ true → Went
+      by_whole : stop ≡ Ok (tt {0}) → (b : Bool) → misaligned (kind_of Hsv) address width ≡ b → is_done (ended h (pick b (misaligned_one stores) ran).end).outcome ≡ true → Went
       by_whole g true w d = clash d
       by_whole g false w d = by_end g w ran.end refl d
 
-      by_stop : (s : Stop) → stop ≡ s → is_done (reached_by s h word (walk_for base bytes stores)).outcome ≡ true → Went
-      by_stop Goes g d = by_whole g (misaligned (kind_of Hsv) address width) refl d
-      by_stop (Halts true n) g d = clash d
-      by_stop (Halts false n) g d = clash d
+      by_stop : (s : Result Unit Halt) → stop ≡ s → is_done (reached_by s h word (walk_for base bytes stores)).outcome ≡ true → Went
+      by_stop (Ok t) g d = by_whole g (misaligned (kind_of Hsv) address width) refl d
+      by_stop (Err (Refuses r)) g d = clash d
+      by_stop (Err (Raises n)) g d = clash d
 
   module _ (size : length h.regs ≡ kept) (done : is_done r.outcome ≡ true) where
     w : Went

@@ -1,4 +1,5 @@
 -- Sv48, Sv57 and their x4 (2026-05): the MODEs that a hart can hold; the bounds of every two depths, and worked cases, each a computed table. Assumes nothing.
+use Rattle.std.specs.Prelude.{Some, Result, Ok, Err}
 use mathlib.Core.Path.{◌≡◌, refl}
 use mathlib.Core.Bool.{true}
 use mathlib.Core.List.{List, [], ◌∷◌, map}
@@ -6,6 +7,7 @@ use Prim.Native.Nat.{ℕ, ◌+◌, ◌*◌, ◌%◌, ◌^◌, ◌<◌}
 use native.Mathlib.Omega.{arith}
 use lib.Dec.{eqb}
 use lib.ListN.{length}
+use Rattle.exceptions.specs.declared.Exception.{Exception}
 use Rattle.bits.specs.Field.{pick, get, put}
 use Rattle.bits.specs.Every.{every}
 use Rattle.registers.specs.Fields.{MODE}
@@ -20,7 +22,6 @@ use Rattle.hart.specs.Hart.{reg, passes}
 use Rattle.hart.specs.Deliver.{delivered_m, delivered_hs, delivered_vs, delivered}
 use Rattle.hart.specs.Event.{settled}
 use Rattle.hart.specs.Access.{written, access_row, access, write}
-use Rattle.image.specs.declared.Entry.TheVariants.{Value}
 use Rattle.image.specs.Image.{within}
 use Rattle.rules.specs.declared.Kind.TheVariants.{Load}
 use Rattle.rules.specs.Address.{extended, small, index}
@@ -30,7 +31,7 @@ use Rattle.effective.specs.Effective.{depth, first_root, second_root}
 use Rattle.translate.specs.Translated.{access_of}
 use Rattle.stages.specs.declared.Read.{Read}
 use Rattle.stages.specs.Tree.{Ran, bind, run}
-use Rattle.stages.specs.Stages.{Result, yields, faults, follow, inspect, down, begin, last, final, walk_of}
+use Rattle.stages.specs.Stages.{follow, inspect, down, begin, last, final, walk_of}
 use Rattle.stages.specs.Listed.{places, most}
 use Rattle.invariants.proofs.Mode.{passing}
 use Rattle.invariants.proofs.Passing.{legal-at}
@@ -67,15 +68,15 @@ abbrev rooted : ℕ → ℕ
 rooted mode = mode * 2 ^ 60 + 0x80000
 
 -- its load of a byte, where every machine address below 2^56 has one and the same entry
-abbrev walked : Hart → (entry address : ℕ) → Ran (Result Machine)
-walked h entry address = run (λ m. Value entry) (walk_of 0 (2 ^ 56) (access_of h Load address 1))
+abbrev walked : Hart → (entry address : ℕ) → Ran (Result Machine Exception)
+walked h entry address = run (λ m. Some entry) (walk_of 0 (2 ^ 56) (access_of h Load address 1))
 
-abbrev end_of : Result Machine → ℕ
-end_of (yields m) = m.0
-end_of (faults f) = f.cause
+abbrev end_of : Result Machine Exception → ℕ
+end_of (Ok m) = m.0
+end_of (Err f) = f.cause
 
 -- where the first read is made, over zero entries; a fault's cause where there is none
-abbrev first_read : Ran (Result Machine) → ℕ
+abbrev first_read : Ran (Result Machine Exception) → ℕ
 first_read r = of r.reads
   where
     of : List Read → ℕ

@@ -1,4 +1,5 @@
 -- Where the traps of hypervisor loads and stores go, and what they tell. Assumes nothing.
+use Rattle.std.specs.Prelude.{Ok, Err}
 use mathlib.Core.Path.{◌≡◌, refl, sym, subst, ◌∙◌}
 use mathlib.Core.Bool.{Bool, true, false}
 use mathlib.Core.List.{List}
@@ -8,6 +9,7 @@ use native.Mathlib.Omega.{arith}
 use lib.Dec.{eqb}
 use lib.ListN.{length}
 use borrow.Author.Tests.{eq-eqb}
+use Rattle.std.specs.Prelude.{Result}
 use Rattle.bits.specs.Field.{pick, get}
 use Rattle.bits.proofs.Bools.{clash}
 use Rattle.bits.proofs.Fields.{get-lt}
@@ -28,7 +30,7 @@ use Rattle.access.proofs.Faults.{not-high, misalignment-low}
 use Rattle.rules.specs.declared.Kind.TheVariants.{Load, Store}
 use Rattle.rules.specs.Kind.{by}
 use Rattle.stages.specs.Tree.{Ran, run}
-use Rattle.stages.specs.Stages.{yields, faults, look, walk_of}
+use Rattle.stages.specs.Stages.{look, walk_of}
 use Rattle.stages.specs.Denied.{GuestPageFault}
 use Rattle.stages.proofs.Raised.{every-fault}
 use Rattle.stages.proofs.Guarded.{guest-page-fault}
@@ -39,7 +41,7 @@ use Rattle.hypervisor.specs.declared.Operation.TheVariants.{Hlv, Hlvx, Hsv}
 use Rattle.hypervisor.specs.Hypervisor.{End, by_operation, kind_of, refusal_of, access_for, walk_for}
 use Rattle.hart.specs.declared.state.Hart.{Hart}
 use Rattle.hart.specs.declared.event.Step.{Step}
-use Rattle.hart.specs.declared.event.Stop.{Stop}
+use Rattle.hart.specs.declared.event.Halt.{Halt}
 use Rattle.hart.specs.declared.guest.Reach.{Reach}
 use Rattle.hart.specs.declared.event.Outcome.TheVariants.{Trapped}
 use Rattle.hart.specs.Hart.{reg, context, paging, passes}
@@ -82,11 +84,11 @@ module _ (h : Hart) (o : Operation) (base : ℕ) (bytes : List ℕ) (width addre
       go Hlvx = p
       go Hsv = q
 
-  fault-of : (f : Exception) → (walk_for base bytes a).end ≡ faults f → Fault f
+  fault-of : (f : Exception) → (walk_for base bytes a).end ≡ Err f → Fault f
   unfolding walk_for
   fault-of f = go (misaligned (kind_of o) address width)
     where
-      go : (b : Bool) → (pick b (misaligned_one a) (run (look base bytes) (walk_of base (length bytes) a))).end ≡ faults f → Fault f
+      go : (b : Bool) → (pick b (misaligned_one a) (run (look base bytes) (walk_of base (length bytes) a))).end ≡ Err f → Fault f
       go true e = let q : misalignment a ≡ f = cc in subst Fault q (fault-by 0 4 6 0 0 refl refl (can_misalign (context h) a (λ v. refl)))
       go false e =
           every-fault Fault base (length bytes) a (fault-by 1 5 7 0 0 refl refl (can_access (context h) a (λ v. refl))) (fault-by 12 13 15 0 0 refl refl (can_page (context h) a (λ v. refl)))
@@ -112,11 +114,11 @@ module _ (h : Hart) (o : Operation) (base : ℕ) (bytes : List ℕ) (width addre
   every-trap cause =
       subst (λ (s : Step). s.outcome ≡ Trapped cause → Trap cause s) (sym (reach_settles o base bytes width address word h))
       (settled_cases (λ (s : Step). s.outcome ≡ Trapped cause → Trap cause s) h (refusal_of o base (length bytes) width) (hypervisor_access (context h)) word (ended h (walk_for base bytes a).end)
-      (λ n z e. clash (cc)) (λ p c which e. let k : c ≡ cause = cc in record { t = plain c word; same = k; why = by_word c which; taken = refl }) (λ p own no2 no22. by_end p no22 (walk_for base bytes a).end refl))
+      (λ r e. clash (cc)) (λ p c which e. let k : c ≡ cause = cc in record { t = plain c word; same = k; why = by_word c which; taken = refl }) (λ p own no2 no22. by_end p no22 (walk_for base bytes a).end refl))
     where
       by_end : passes h ≡ true → eqb h.v 1 ≡ false → (e : End) → (walk_for base bytes a).end ≡ e → (ended h e).outcome ≡ Trapped cause → Trap cause (ended h e)
-      by_end p v (yields m) q e = clash (cc)
-      by_end p v (faults f) q e = let k : f.cause ≡ cause = cc in record { t = f; same = k; why = by-fault f p v (fault-of f q); taken = refl }
+      by_end p v (Ok m) q e = clash (cc)
+      by_end p v (Err f) q e = let k : f.cause ≡ cause = cc in record { t = f; same = k; why = by-fault f p v (fault-of f q); taken = refl }
 
   -- no fault has cause 2 or 22
   none : (op : Operation) → (among 2 (causes op) ≡ false) × (among 22 (causes op) ≡ false)
@@ -212,7 +214,7 @@ module _ (h : Hart) (o : Operation) (base : ℕ) (bytes : List ℕ) (width addre
         → GuestPageFault (root (reg h vsatp)) (by_operation o Load Load Store) address true (listed r) (told r.hart)
     unfolding reach walk_for first_root second_root
     guest-page-told which high on =
-        stop_cases (λ (s : Stop). Told (reached_by s h word walked)) h (refusal_of o base (length bytes) width) (hypervisor_access (context h)) (λ n z q. clash (cc))
+        stop_cases (λ (s : Result Unit Halt). Told (reached_by s h word walked)) h (refusal_of o base (length bytes) width) (hypervisor_access (context h)) (λ r q. clash (cc))
         (λ p c w q. let k : c ≡ cause = cc in clash (sym (rw k at (excluded c w)) ∙ which)) (λ p own no2 no22. by_end p no22 walked.end refl) e
       where
         walked : Ran End
@@ -223,12 +225,12 @@ module _ (h : Hart) (o : Operation) (base : ℕ) (bytes : List ℕ) (width addre
 
         met : (f : Exception) → 20 ≤ f.cause → (b : Bool)
             → let w = pick b (misaligned_one a) (run (look base bytes) (walk_of base (length bytes) a)) in
-            w.end ≡ faults f → GuestPageFault (root (reg h vsatp)) (kind_of o) address true w.reads f
+            w.end ≡ Err f → GuestPageFault (root (reg h vsatp)) (kind_of o) address true w.reads f
         met f c true q = let k : f ≡ misalignment a = cc in not-high (misalignment a) f k (misalignment-low a) c
         met f c false q = guest-page-fault (look base bytes) base (length bytes) a (on-depth (reg h hgatp) on) f q c
 
         by_end : passes h ≡ true → eqb h.v 1 ≡ false → (x : End) → walked.end ≡ x → Told (arrived h (record { end = x; reads = walked.reads }))
-        by_end p v (yields m) q t = clash (cc)
-        by_end p v (faults f) q t =
+        by_end p v (Ok m) q t = clash (cc)
+        by_end p v (Err f) q t =
             let k : f.cause ≡ cause = cc in
             rw (listed-walk h walked, (left f size (fault-of f q) p v).told_all) (met f (rw k high) (misaligned (kind_of o) address width) q)

@@ -9,6 +9,8 @@ use lib.Dec.{eqb}
 use lib.ListN.{get_or, set, length, replicate}
 use borrow.Author.Tests.{eqb-true, eqb-false, eq-eqb}
 use lib.Seq.{get_or-set_same, get_or-set_other}
+use Rattle.std.specs.Prelude.{Result, Option, Some, None}
+use Rattle.exceptions.specs.declared.Refusal.{Refusal}
 use Rattle.bits.specs.Field.{get, has, top}
 use Rattle.bits.specs.Every.{every}
 use Rattle.bits.proofs.Bools.{and_left, clash, or_left, or_right, or_cases, and_rest, split}
@@ -19,10 +21,9 @@ use Rattle.registers.specs.Places.{kept, mie, mip, hideleg}
 use Rattle.registers.specs.Rules.{among}
 use Rattle.registers.specs.Views.{View, ungated, lets, up, stored_by, no_bits}
 use Rattle.registers.proofs.Through.{through_alone}
-use Rattle.table.specs.declared.Found.{Found}
-use Rattle.table.specs.declared.Found.TheVariants.{At, Nothing}
-use Rattle.registers.specs.Registers.{count, hypervisor, machine, Register, register, registers, at}
-use Rattle.table.specs.Table.{row_of, table, first_at}
+use Rattle.registers.specs.Registers.{count, Register, register, registers, at}
+use Rattle.table.specs.declared.Row.{Row}
+use Rattle.table.specs.Table.{is_machine, is_hypervisor, row_of, table, first_at}
 use Rattle.privilege.specs.Mode.{is_vu, is_vs, is_set}
 use Rattle.privilege.specs.declared.Verdict.{Verdict}
 use Rattle.csr.specs.declared.Form.{Form}
@@ -55,7 +56,7 @@ lent v = eqb v.gate hideleg && (shared v.home && covered v)
 
 -- one computed test: a row that is neither M's nor VS's nor H's reaches no more with V=1
 abbrev test : ℕ → Register → Bool
-test i r = eqb r.level machine || (eqb r.level hypervisor || (own r.twin || lent r.twin))
+test i r = is_machine (row_of r).level || (is_hypervisor (row_of r).level || (own r.twin || lent r.twin))
 
 tested : every test 0 registers ≡ true
 unfolding every get
@@ -97,10 +98,10 @@ reached-guest h place w p v l a =
     let c = context h in
     let row = row_of (at place) in
     let t : Bool = is_set VTVM c.hstatus && is_satp row in
-    let hyp : Bool = eqb (at place).level hypervisor in
+    let hyp : Bool = is_hypervisor row.level in
     let s : is_vs c ≡ true = in_VS h.v h.privilege (passing h p).mode v (or_right (is_vs c && (t || hyp)) (is_vu c) a.not22) in
     let e₁ : hyp ≡ false = not-hypervisor (is_vs c) t hyp (is_vu c) a.not22 s in
-    let e₂ : eqb (at place).level machine ≡ false = not-machine (w && (at place).read_only) (host_lacks c row) (eqb h.v 1) _ a.not2 (eq-eqb _ _ v) in
+    let e₂ : is_machine row.level ≡ false = not-machine (w && (at place).read_only) (host_lacks c row) (eqb h.v 1) _ a.not2 (eq-eqb _ _ v) in
     rw v (reach (at place).twin (simp (e₁, e₂) at (every-at test registers (register 0 0 no_bits) tested place l)))
 
 -- what a lent view's gate lets through, in a hart that keeps so many registers
@@ -157,7 +158,7 @@ pub record Within (h h' : Hart) : Type 0 where
 module _ (h : Hart) (size : length h.regs ≡ kept) (word : reg h hideleg < 2 ^ 64) (v : h.v ≡ 1) where
   stays_within : (s : Step) → Comes h s → s.outcome ≡ Done → Within h s.hart
   unfolding returned_vs written
-  stays_within s (refuses n k) e = clash (cc)
+  stays_within s (refuses r) e = clash (cc)
   stays_within s (traps a t) e = clash (cc)
   stays_within s (mrets a m) e = clash (rw v at (and_left (eqb h.v 0) _ m))
   stays_within s (srets_VS a u) e = record { kept = only_guest h _ (outside_kept guest (writes_vsret h) h.regs refl); v = refl }
@@ -174,16 +175,16 @@ module _ (h : Hart) (size : length h.regs ≡ kept) (word : reg h hideleg < 2 ^ 
   guest-within e = stays_within (run e h) (comes e h)
 
 -- an access that is done keeps the privilege too
-settled-keeps : (h : Hart) (own : ℕ) (v : Verdict) (word : ℕ) (h' : Hart) → h'.privilege ≡ h.privilege
+settled-keeps : (h : Hart) (own : Result Unit Refusal) (v : Verdict) (word : ℕ) (h' : Hart) → h'.privilege ≡ h.privilege
     → (settled h own v word (done h')).outcome ≡ Done → (settled h own v word (done h')).hart.privilege ≡ h.privilege
 settled-keeps h own v word h' k =
-    settled_cases (λ (s : Step). s.outcome ≡ Done → s.hart.privilege ≡ h.privilege) h own v word (done h') (λ n z e. refl)
+    settled_cases (λ (s : Step). s.outcome ≡ Done → s.hart.privilege ≡ h.privilege) h own v word (done h') (λ r e. refl)
     (λ p cause c e. clash (cc)) (λ p o a b e. k)
 
-found-keeps : (found : Found) (h : Hart) (own : ℕ) (form : Form) (w : ℕ) (b : Bool) (word : ℕ) → (access_found found h own form w b word).outcome ≡ Done → (access_found found h own form w b word).hart.privilege ≡ h.privilege
+found-keeps : (found : Option (ℕ × Row)) (h : Hart) (own : Result Unit Refusal) (form : Form) (w : ℕ) (b : Bool) (word : ℕ) → (access_found found h own form w b word).outcome ≡ Done → (access_found found h own form w b word).hart.privilege ≡ h.privilege
 unfolding access_row written
-found-keeps Nothing h own form w b word = settled-keeps h own _ _ h refl
-found-keeps (At place row) h own form w b word =
+found-keeps None h own form w b word = settled-keeps h own _ _ h refl
+found-keeps (Some (place, row)) h own form w b word =
     let to = reaches h place in
     settled-keeps h own _ _ (written h to (combined form (seen h to) w) b) refl
 

@@ -1,9 +1,11 @@
 -- The starred known replays (document 01, "Tab against tab"), as one computed table. Assumes nothing.
+use Rattle.std.specs.Prelude.{Some, Result, Ok, Err}
 use mathlib.Core.Path.{◌≡◌, refl}
 use mathlib.Core.Bool.{true}
 use mathlib.Core.List.{List, [], ◌∷◌}
 use Prim.Native.Nat.{ℕ, ◌+◌, ◌*◌}
 use lib.Dec.{eqb}
+use Rattle.exceptions.specs.declared.Exception.{Exception}
 use Rattle.bits.specs.Field.{pick, top, get, put}
 use Rattle.bits.specs.Assign.{◌after◌, ◌:=◌}
 use Rattle.bits.specs.Every.{every}
@@ -21,7 +23,6 @@ use Rattle.hart.specs.Deliver.{delivered_m, delivered_hs, delivered_vs, delivere
 use Rattle.hart.specs.Event.{settled}
 use Rattle.hart.specs.Return.{returned_m, mret}
 use Rattle.hart.specs.Access.{written, access_row, access, read, write}
-use Rattle.image.specs.declared.Entry.TheVariants.{Value}
 use Rattle.rules.specs.declared.Kind.TheVariants.{Load}
 use Rattle.rules.specs.Address.{first, well_formed, extended, small, index}
 use Rattle.rules.specs.Entry.{malformed, bad_pointer, bad_leaf, faulty, judged}
@@ -30,7 +31,7 @@ use Rattle.effective.specs.Effective.{depth, first_root, second_root}
 use Rattle.translate.specs.Translated.{access_of}
 use Rattle.stages.specs.declared.Read.{Read}
 use Rattle.stages.specs.Tree.{Ran, bind, run}
-use Rattle.stages.specs.Stages.{Result, yields, faults, follow, inspect, down, begin, final, walk_of}
+use Rattle.stages.specs.Stages.{follow, inspect, down, begin, final, walk_of}
 
 -- what a replay answers, and what it should
 pub record Replay : Type 0 where
@@ -55,7 +56,7 @@ cause a = of a.outcome
     of : Outcome → ℕ
     of Done = 0
     of (Trapped c) = c
-    of (Refused n) = 0
+    of (Refused r) = 0
     of (Interrupted n) = 0
 
 -- in M, with MPP=3 and MPV=1
@@ -67,20 +68,20 @@ abbrev guest_hart : Hart
 guest_hart = record { v = 1; privilege = 1; pc = 0; regs = (write (reset 0 3 0) 0x680 0x8000000000080004 any_word).hart.regs }
 
 -- its load of a byte at a guest physical address, over an image of zero entries everywhere
-abbrev probe : ℕ → Ran (Result Machine)
-probe address = run (λ m. Value 0) (walk_of 0 0 (access_of guest_hart Load address 1))
+abbrev probe : ℕ → Ran (Result Machine Exception)
+probe address = run (λ m. Some 0) (walk_of 0 0 (access_of guest_hart Load address 1))
 
 abbrev first_read : List Read → ℕ
 first_read [] = 0
 first_read (x ∷ xs) = x.address.0
 
-abbrev fault-cause : Result Machine → ℕ
-fault-cause (yields m) = 0
-fault-cause (faults f) = f.cause
+abbrev fault-cause : Result Machine Exception → ℕ
+fault-cause (Ok m) = 0
+fault-cause (Err f) = f.cause
 
-abbrev pub second-value : Result Machine → ℕ
-second-value (yields m) = 0
-second-value (faults f) = f.value2
+abbrev pub second-value : Result Machine Exception → ℕ
+second-value (Ok m) = 0
+second-value (Err f) = f.value2
 
 -- Sv39: 1 for a well-formed address
 abbrev well_formed_lem : ℕ → ℕ

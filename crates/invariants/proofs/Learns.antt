@@ -1,5 +1,6 @@
 -- A guest learns nothing of the host's registers: with V=1 an event comes to the same on two harts that agree on the guest and the
 -- controls. Assumes nothing.
+use Rattle.std.specs.Prelude.{Result, Ok, Err, Option, Some, None, option_map, find}
 use mathlib.Core.Path.{◌≡◌, refl, sym, ap, subst, ◌∙◌}
 use mathlib.Core.Bool.{Bool, true, false, ◌&&◌, ◌||◌, not}
 use mathlib.Core.Logic.{◌⊎◌, ⊎_elim}
@@ -11,6 +12,8 @@ use lib.Dec.{eqb, ltb}
 use lib.ListN.{get_or, set, length, get_or-eq_default}
 use lib.Seq.{get_or-set_same, get_or-set_other}
 use borrow.Author.Tests.{eqb-true, eqb-false, ltb-true, not-false}
+use Rattle.std.specs.Prelude.{Result, Ok, Err}
+use Rattle.exceptions.specs.declared.Refusal.{Refusal}
 use Rattle.bits.specs.Field.{pick, top, get, has}
 use Rattle.bits.specs.Every.{every}
 use Rattle.bits.proofs.Bools.{clash, split, and-true, and-false, and_left, and_rest, or_cases}
@@ -25,8 +28,6 @@ use Rattle.registers.specs.File.{Write, ◌with◌, holds}
 use Rattle.registers.proofs.Rows.{reaches-home}
 use Rattle.registers.proofs.Through.{same-through}
 use Rattle.table.specs.declared.Row.{Row}
-use Rattle.table.specs.declared.Found.{Found}
-use Rattle.table.specs.declared.Found.TheVariants.{At, Nothing}
 use Rattle.table.specs.Table.{row_of, table, first_at}
 use Rattle.table.proofs.Listed.{lookup-found}
 use Rattle.exceptions.specs.declared.Exception.{Exception}
@@ -36,9 +37,7 @@ use Rattle.traps.specs.Request.{impossible}
 use Rattle.delivery.specs.declared.Target.{Target}
 use Rattle.delivery.specs.declared.Target.TheVariants.{M, HS, VS}
 use Rattle.delivery.specs.Delivery.{target, handler, call_cause, breakpoint}
-use Rattle.interrupts.specs.declared.Due.{Due}
-use Rattle.interrupts.specs.declared.Due.TheVariants.{To, Nothing}
-use Rattle.interrupts.specs.Interrupts.{admits, due, order, first_of, chosen, interruption}
+use Rattle.interrupts.specs.Interrupts.{admits, due, levels, order, of, first_level, chosen, interruption}
 use Rattle.interrupts.specs.First.{In}
 use Rattle.interrupts.proofs.Sets.{first-same}
 use Rattle.csr.specs.declared.Form.{Form}
@@ -50,8 +49,8 @@ use Rattle.hart.specs.declared.event.Step.{Step}
 use Rattle.hart.specs.declared.accesses.Accessed.{Accessed}
 use Rattle.hart.specs.Hart.{reg, context, lines}
 use Rattle.hart.specs.Deliver.{writes_m, writes_hs, writes_vs, delivered_m, delivered_hs, delivered_vs, delivered_to, delivered}
-use Rattle.hart.specs.Event.{step, trapped, plain, done, refuses, raises, settled_by, settled, moved, next}
-use Rattle.hart.specs.declared.event.Stop.TheVariants.{Goes}
+use Rattle.hart.specs.Event.{step, trapped, plain, done, unless_refused, settled_by, settled, moved, next}
+use Rattle.hart.specs.declared.event.Halt.TheVariants.{Raises}
 use Rattle.hart.specs.Trap.{trap, ecall, ebreak}
 use Rattle.hart.specs.Interrupt.{taking, interrupt}
 use Rattle.hart.specs.Return.{writes_vsret, returned_vs, returned_s, mret, sret}
@@ -59,8 +58,8 @@ use Rattle.hart.specs.Wait.{wfi, sfence_vma, hfence_vvma, hfence_gvma}
 use Rattle.hart.specs.Access.{seen, written, value_of, answer, access_row, access_found, access}
 use Rattle.rules.specs.declared.Kind.{Kind}
 use Rattle.effective.specs.Effective.{first_root, second_root}
-use Rattle.translate.specs.declared.Start.{Start}
-use Rattle.translate.specs.declared.Start.TheVariants.{Answered, Walks}
+use Rattle.access.specs.declared.Access.{Access}
+use Rattle.translate.specs.declared.Answer.{Answer}
 use Rattle.translate.specs.Translated.{access_of, start_of, concluded, translated}
 use Rattle.invariants.specs.Events.{Event, step_of, run}
 use Rattle.invariants.specs.Events as events
@@ -110,8 +109,8 @@ unfolding every
 below_64 n i = ltb-true n 64 (in_test (λ m. ltb m 64) order 0 n refl i)
 
 -- the guest's own choice
-abbrev guests : ℕ → Due
-guests n = pick (eqb n 0) Nothing (To VS n)
+abbrev guests : Option ℕ → Option (Target × ℕ)
+guests = option_map (λ n. (VS, n))
 
 same_all : (s p e d g p' e' d' g' : Bool) → g ≡ g' → (p && g) ≡ (p' && g') → (e && g) ≡ (e' && g') → (g ≡ true → d ≡ true) → (g' ≡ true → d' ≡ true)
     → (s && ((p && e) && (d && g))) ≡ (s && ((p' && e') && (d' && g')))
@@ -183,16 +182,16 @@ module _ (h h' : Hart) (a : Alike h h') where
   as_they_were : (o : Outcome) → Same (step h o) (step h' o)
   as_they_were o = record { outcome = refl; v = a.left.v ∙ sym a.right.v; privilege = a.privilege; guest = a.guest; handed = a.handed; pc = λ e. a.pc }
 
-  same-settled : (own : ℕ) (v v' : Verdict) (word : ℕ) (f f' : Step) → v ≡ v' → (Allowed v → Same f f') → Same (settled h own v word f) (settled h' own v' word f')
+  same-settled : (own : Result Unit Refusal) (v v' : Verdict) (word : ℕ) (f f' : Step) → v ≡ v' → (Allowed v → Same f f') → Same (settled h own v word f) (settled h' own v' word f')
   unfolding settled
-  same-settled own v v' word f f' e d = rw (← e, a.left.passing, a.right.passing) (go (not (eqb own 0)) v.gives2 refl v.gives22 refl)
+  same-settled own v v' word f f' e d = rw (← e, a.left.passing, a.right.passing) (go own v.gives2 refl v.gives22 refl)
     where
-      go : (b₁ b₂ : Bool) → v.gives2 ≡ b₂ → (b₃ : Bool) → v.gives22 ≡ b₃
-          → Same (settled_by (pick b₁ (refuses own) (pick b₂ (raises 2) (pick b₃ (raises 22) Goes))) h word f) (settled_by (pick b₁ (refuses own) (pick b₂ (raises 2) (pick b₃ (raises 22) Goes))) h' word f')
-      go true b₂ e₂ b₃ e₃ = as_they_were (Refused own)
-      go false true e₂ b₃ e₃ = same-trapped (plain 2 word)
-      go false false e₂ true e₃ = same-trapped (plain 22 word)
-      go false false e₂ false e₃ = d (record { not2 = e₂; not22 = e₃ })
+      go : (o : Result Unit Refusal) (b₂ : Bool) → v.gives2 ≡ b₂ → (b₃ : Bool) → v.gives22 ≡ b₃
+          → Same (settled_by (unless_refused o (pick b₂ (Err (Raises 2)) (pick b₃ (Err (Raises 22)) (Ok tt)))) h word f) (settled_by (unless_refused o (pick b₂ (Err (Raises 2)) (pick b₃ (Err (Raises 22)) (Ok tt)))) h' word f')
+      go (Err r) b₂ e₂ b₃ e₃ = as_they_were (Refused r)
+      go (Ok t) true e₂ b₃ e₃ = same-trapped (plain 2 word)
+      go (Ok t) false e₂ true e₃ = same-trapped (plain 22 word)
+      go (Ok t) false e₂ false e₃ = d (record { not2 = e₂; not22 = e₃ })
 
   -- ---- what is done
 
@@ -310,18 +309,18 @@ module _ (h h' : Hart) (a : Alike h h') where
     same : Same (step_of x) (step_of x')
     value : x.value ≡ x'.value
 
-  same_answer : (own : ℕ) (v v' : Verdict) (word : ℕ) (f f' : Step) (old old' : ℕ) → v ≡ v' → (Allowed v → Same f f' × (old ≡ old'))
+  same_answer : (own : Result Unit Refusal) (v v' : Verdict) (word : ℕ) (f f' : Step) (old old' : ℕ) → v ≡ v' → (Allowed v → Same f f' × (old ≡ old'))
       → SameAccess (answer (settled h own v word f) old) (answer (settled h' own v' word f') old')
   same_answer own v v' word f f' old old' e d =
       let s = same-settled own v v' word f f' e (λ k. (d k).0) in
       record {
         same = s;
         value =
-            settled_cases (λ (x : Step). value_of x.outcome old ≡ value_of x.outcome old') h own v word f (λ n z. refl) (λ p cause w. refl)
+            settled_cases (λ (x : Step). value_of x.outcome old ≡ value_of x.outcome old') h own v word f (λ r. refl) (λ p cause w. refl)
             (λ p o x y. ap (value_of f.outcome) (d (record { not2 = x; not22 = y })).1) ∙ ap (λ (o : Outcome). value_of o old') s.outcome;
       }
 
-  same_row : (own place : ℕ) (form : Form) (w : ℕ) (b : Bool) (word : ℕ) → place < count
+  same_row : (own : Result Unit Refusal) (place : ℕ) (form : Form) (w : ℕ) (b : Bool) (word : ℕ) → place < count
       → SameAccess (access_row h own place (row_of (at place)) form w b word) (access_row h' own place (row_of (at place)) form w b word)
   unfolding access_row
   same_row own place form w b word l =
@@ -333,9 +332,9 @@ module _ (h h' : Hart) (a : Alike h h') where
       let g = reads to (reached-guest h place b a.left.passing a.left.v l k) in
       rw (← t, ← g.sees) (same-written to (combined form (seen h to) w) b (reaches-home place (eqb h.v 1)) g, refl))
 
-  same-found : (number own : ℕ) (found : Found) (form : Form) (w : ℕ) (b : Bool) (word : ℕ) → first_at table number 0 ≡ found → SameAccess (access_found found h own form w b word) (access_found found h' own form w b word)
-  same-found number own Nothing form w b word e = same_answer own (gives true false) (gives true false) word (done h) (done h') 0 0 refl (λ k. clash (sym k.not2))
-  same-found number own (At place row) form w b word e =
+  same-found : (number : ℕ) (own : Result Unit Refusal) (found : Option (ℕ × Row)) (form : Form) (w : ℕ) (b : Bool) (word : ℕ) → first_at table number 0 ≡ found → SameAccess (access_found found h own form w b word) (access_found found h' own form w b word)
+  same-found number own None form w b word e = same_answer own (gives true false) (gives true false) word (done h) (done h') 0 0 refl (λ k. clash (sym k.not2))
+  same-found number own (Some (place, row)) form w b word e =
       let l = lookup-found number place row e in
       subst (λ (r : Row). SameAccess (access_row h own place r form w b word) (access_row h' own place r form w b word)) (sym l.row) (same_row own place form w b word l.below)
 
@@ -346,17 +345,17 @@ module _ (h h' : Hart) (a : Alike h h') where
   -- ---- the interrupt that is due
 
   -- where none goes to the host, it is the first of the guest's own
-  guests_alone : (k : Hart) → Undisturbed k → chosen (context k) (lines k) ≡ guests (first_of (due (context k) (lines k) VS) order)
+  guests_alone : (k : Hart) → Undisturbed k → chosen (context k) (lines k) ≡ guests (find (due (context k) (lines k) VS) order)
   unfolding chosen
   guests_alone k u =
-      let at : Target → ℕ = λ to. first_of (due (context k) (lines k) to) order in
-      go (at M) (eqb (at M) 0) (at HS) (eqb (at HS) 0) (guests (at VS)) u
+      let at : Target → Option ℕ = λ to. find (due (context k) (lines k) to) order in
+      go (at M) (at HS) (at VS) u
     where
-      go : (m : ℕ) (b₁ : Bool) (hs : ℕ) (b₂ : Bool) (rest : Due) → ((to : Target) (n : ℕ) → pick b₁ (pick b₂ rest (To HS hs)) (To M m) ≡ To to n → to ≡ VS)
-          → pick b₁ (pick b₂ rest (To HS hs)) (To M m) ≡ rest
-      go m true hs true rest u = refl
-      go m true hs false rest u = let e : HS ≡ VS = u HS hs refl in clash (cc)
-      go m false hs b₂ rest u = let e : M ≡ VS = u M m refl in clash (cc)
+      go : (m hs vs : Option ℕ) → ((to : Target) (n : ℕ) → first_level (of m hs vs) levels ≡ Some (to, n) → to ≡ VS) → first_level (of m hs vs) levels ≡ guests vs
+      go (Some n) hs vs u = let e : M ≡ VS = u M n refl in clash (cc)
+      go None (Some n) vs u = let e : HS ≡ VS = u HS n refl in clash (cc)
+      go None None (Some n) u = refl
+      go None None None u = refl
 
   handed-bits : (p n : ℕ) → shared p ≡ true → (has n (reg h p) && has n (reg h hideleg)) ≡ (has n (reg h' p) && has n (reg h' hideleg))
   handed-bits p n t = sym (has-and n (reg h p) (reg h hideleg)) ∙ ap (has n) (a.handed.bits p t) ∙ has-and n (reg h' p) (reg h' hideleg)
@@ -374,9 +373,9 @@ module _ (h h' : Hart) (a : Alike h h') where
   same_chosen : Undisturbed h → Undisturbed h' → chosen (context h) (lines h) ≡ chosen (context h') (lines h')
   same_chosen u u' = guests_alone h u ∙ ap guests (first-same (due (context h) (lines h) VS) (due (context h') (lines h') VS) order same-due) ∙ sym (guests_alone h' u')
 
-  same-taking : (d : Due) → Same (taking h d) (taking h' d)
-  same-taking (To to n) = delivered-same to (interruption to n) (Interrupted n)
-  same-taking Nothing = as_they_were Done
+  same-taking : (d : Option (Target × ℕ)) → Same (taking h d) (taking h' d)
+  same-taking (Some (to, n)) = delivered-same to (interruption to n) (Interrupted n)
+  same-taking None = as_they_were Done
 
   -- ---- every event
 
@@ -429,6 +428,6 @@ module _ (h h' : Hart) (a : Alike h h') where
   unfolding translated
   guest_translates t base bytes kind address width = rw (← same_start t base (length bytes) kind address width) (go (start_of h base (length bytes) kind address width))
     where
-      go : (s : Start) → SameTranslated (concluded h base bytes s) (concluded h' base bytes s)
-      go (Answered x) = record { answer = refl; reads = refl; count = refl }
-      go (Walks x) = record { answer = refl; reads = refl; count = refl }
+      go : (s : Result Access Answer) → SameTranslated (concluded h base bytes s) (concluded h' base bytes s)
+      go (Err x) = record { answer = refl; reads = refl; count = refl }
+      go (Ok x) = record { answer = refl; reads = refl; count = refl }

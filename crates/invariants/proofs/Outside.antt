@@ -1,5 +1,6 @@
 -- A hypervisor load or store makes the guest's access, and takes its faults outside the guest. Assumes nothing.
-use mathlib.Core.Path.{◌≡◌, refl}
+use Rattle.std.specs.Prelude.{Ok, Err}
+use mathlib.Core.Path.{◌≡◌, refl, sym}
 use mathlib.Core.Bool.{Bool, true, false, ◌&&◌, ◌||◌, not}
 use mathlib.Core.List.{List}
 use mathlib.Core.Logic.{◌⊎◌, inl, inr}
@@ -7,6 +8,7 @@ use Prim.Native.Nat.{ℕ, zero, suc, ◌%◌, ◌<◌}
 use native.Mathlib.Omega.{arith}
 use lib.Dec.{eqb}
 use lib.ListN.{length}
+use Rattle.std.specs.Prelude.{Result, Ok}
 use Rattle.bits.specs.Field.{pick, get, has}
 use Rattle.bits.proofs.Bools.{and_left, and_right, or-false}
 use Rattle.bits.proofs.Fields.{get-lt}
@@ -22,7 +24,7 @@ use Rattle.access.specs.Widths.{known, misaligned}
 use Rattle.access.specs.Needs.{first_need, second_need}
 use Rattle.access.specs.Faults.{misalignment}
 use Rattle.stages.specs.Tree.{Ran, run}
-use Rattle.stages.specs.Stages.{yields, faults, look, walk_of}
+use Rattle.stages.specs.Stages.{look, walk_of}
 use Rattle.effective.specs.declared.Paging.{Paging}
 use Rattle.effective.specs.Effective.{first_root, second_root}
 use Rattle.hypervisor.specs.declared.Operation.{Operation}
@@ -33,14 +35,12 @@ use Rattle.hart.specs.declared.state.Hart.{Hart}
 use Rattle.hart.specs.declared.event.Step.{Step}
 use Rattle.hart.specs.declared.guest.Reach.{Reach}
 use Rattle.hart.specs.Hart.{reg, context, paging, passes}
-use Rattle.hart.specs.declared.event.Stop.{Stop}
-use Rattle.hart.specs.declared.event.Stop.TheVariants.{Goes}
+use Rattle.hart.specs.declared.event.Halt.{Halt}
 use Rattle.hart.specs.Event.{done, refused, trapped, stop_of, moved}
 use Rattle.hart.specs.Guest.{arrived, reach}
 use Rattle.hart.proofs.Reached.{goes_own}
 use Rattle.translate.specs.declared.Answer.{Answer}
 use Rattle.translate.specs.declared.Translated.{Translated}
-use Rattle.translate.specs.declared.Start.TheVariants.{Answered, Walks}
 use Rattle.translate.specs.Translated.{unsupported, access_of, start_of, walked_to, concluded, translated}
 use Rattle.invariants.proofs.Reached.{misaligned_one}
 
@@ -64,12 +64,12 @@ hlvx_needs_X c p address width e = (refl, refl, refl)
 -- what a translation answers, "a fault .. delivered as a trap"
 abbrev answered : Hart → Answer → Step
 answered h (Answer.Address m) = done (moved h)
-answered h (Answer.Refused n) = refused h n
+answered h (Answer.Refused r) = refused h r
 answered h (Answer.Fault f) = trapped h f
 
 abbrev there : Answer → ℕ
 there (Answer.Address m) = m.0
-there (Answer.Refused n) = 0
+there (Answer.Refused r) = 0
 there (Answer.Fault f) = 0
 
 abbrev pub delivering : Hart → Translated → Reach
@@ -96,30 +96,30 @@ module _ (h : Hart) (o : Operation) (base : ℕ) (bytes : List ℕ) (width addre
   abbrev accessed : Access
   accessed = access_for o (context h) (paging h) address width
 
-  abbrev stop : Stop
+  abbrev stop : Result Unit Halt
   stop = stop_of h (refusal_of o base (length bytes) width) (hypervisor_access (context h))
 
   -- one that goes on, of a hart with MPRV=0, comes to what the translation in its guest answers, a fault delivered as a trap
-  translates_as : accessed ≡ access_of (as_guest h) (kind_of o) address width → unsupported (kind_of o) address width ≡ not (known width) → passes h ≡ true → is_set MPRV (reg h mstatus) ≡ false → stop ≡ Goes
+  translates_as : accessed ≡ access_of (as_guest h) (kind_of o) address width → unsupported (kind_of o) address width ≡ not (known width) → passes h ≡ true → is_set MPRV (reg h mstatus) ≡ false → stop ≡ Ok tt
       → reach h o base bytes width address word ≡ delivering h (translated (as_guest h) base bytes (kind_of o) address width)
   unfolding reach walk_for translated start_of
   translates_as same widths p m g =
-      let k = taken o base (length bytes) width (goes_own h (refusal_of o base (length bytes) width) (hypervisor_access (context h)) g) in
+      let k = taken o base (length bytes) width (goes_own h (refusal_of o base (length bytes) width) (hypervisor_access (context h)) (sym g)) in
       rw (g, guest-passes h p m, k.image, widths, k.form, ← same) (by_whole (misaligned (kind_of o) address width))
     where
       ran : Ran End
       ran = run (look base bytes) (walk_of base (length bytes) accessed)
 
       by_end : (e : End) → arrived h (record { end = e; reads = ran.reads }) ≡ delivering h (walked_to (as_guest h) (record { end = e; reads = ran.reads }))
-      by_end (yields x) = refl
-      by_end (faults f) = refl
+      by_end (Ok x) = refl
+      by_end (Err f) = refl
 
-      by_whole : (b : Bool) → arrived h (pick b (misaligned_one accessed) ran) ≡ delivering h (concluded (as_guest h) base bytes (pick b (Answered (Answer.Fault (misalignment accessed))) (Walks accessed)))
+      by_whole : (b : Bool) → arrived h (pick b (misaligned_one accessed) ran) ≡ delivering h (concluded (as_guest h) base bytes (pick b (Err (Answer.Fault (misalignment accessed))) (Ok accessed)))
       by_whole true = refl
       by_whole false = by_end ran.end
 
   -- HLV comes to what a load in the guest answers, HSV to what a store does
-  pub as_translated : (o ≡ Hlv) ⊎ (o ≡ Hsv) → passes h ≡ true → is_set MPRV (reg h mstatus) ≡ false → stop ≡ Goes → reach h o base bytes width address word ≡ delivering h (translated (as_guest h) base bytes (kind_of o) address width)
+  pub as_translated : (o ≡ Hlv) ⊎ (o ≡ Hsv) → passes h ≡ true → is_set MPRV (reg h mstatus) ≡ false → stop ≡ Ok tt → reach h o base bytes width address word ≡ delivering h (translated (as_guest h) base bytes (kind_of o) address width)
   unfolding unsupported access_of first_root second_root
   as_translated (inl e) = translates_as (rw e) (rw e (or-false (not (known width))))
   as_translated (inr e) = translates_as (rw e) (rw e (or-false (not (known width))))

@@ -10,6 +10,7 @@ use lib.Dec.{eqb, ltb}
 use lib.ListN.{get_or, set, drop, length}
 use lib.Seq.{get_or-set_same, get_or-set_other}
 use borrow.Author.Tests.{eqb-true, eqb-false, eq-eqb, ltb-true}
+use Rattle.std.specs.Prelude.{Some}
 use Rattle.bits.specs.declared.Field.{Field}
 use Rattle.bits.specs.Field.{pick, top, get, put, has, copy}
 use Rattle.bits.specs.Assign.{◌after◌, ◌:=◌}
@@ -23,8 +24,8 @@ use Rattle.registers.specs.Fields.{TVM, MIE, MPIE, MPRV, MPP, MPV, SPP, SPV}
 use Rattle.registers.specs.Places.{kept, stvec, sepc, vsstatus, vstvec, vsepc, mstatus, mtvec, mepc, hstatus, medeleg, hedeleg}
 use Rattle.registers.specs.Rules.{legal, among, stored, stores_epc, rule}
 use Rattle.registers.specs.Views.{View, lets, up, stored_by, no_bits}
-use Rattle.registers.specs.Registers.{count, machine, Register, register, registers, at}
-use Rattle.table.specs.Table.{row_of}
+use Rattle.registers.specs.Registers.{count, Register, register, registers, at}
+use Rattle.table.specs.Table.{is_machine, row_of}
 use Rattle.registers.proofs.Legal.{taken-has, fine, takes, same, legal-allowed}
 use Rattle.registers.proofs.Rows.{rule_sound, stored-legal, sound_view, reaches_sound}
 use Rattle.status.specs.Trap.{into_m, into_s, into_h}
@@ -34,7 +35,6 @@ use Rattle.exceptions.specs.declared.Exception.{Exception}
 use Rattle.delivery.specs.declared.Target.{Target}
 use Rattle.delivery.specs.declared.Target.TheVariants.{M, HS, VS}
 use Rattle.delivery.specs.Delivery.{target, base, is_interrupt, code, handler}
-use Rattle.interrupts.specs.declared.Due.TheVariants.{To}
 use Rattle.interrupts.specs.Interrupts.{chosen, interruption}
 use Rattle.privilege.specs.Mode.{is_u, is_hs, is_m, is_set}
 use Rattle.hart.specs.declared.state.Hart.{Hart}
@@ -49,6 +49,7 @@ use Rattle.hart.specs.Access.{written}
 use Rattle.registers.proofs.Straight.{word-legal}
 use Rattle.invariants.specs.Events.{Event, run}
 use Rattle.invariants.specs.Learns.{guest}
+use Rattle.invariants.proofs.Settled.{some_number}
 use Rattle.invariants.proofs.Mode.{Mode, Passing, passing, passes_of}
 use Rattle.invariants.proofs.Mode as mode
 use Rattle.invariants.proofs.Writes.{all_in, outside_kept, with_holds}
@@ -183,7 +184,7 @@ module _ (h : Hart) (t : Exception) (p : Passing h) (l : length h.regs ≡ kept)
   delivered-passes =
       into (target (context h) (reg h medeleg) (reg h hedeleg) t.cause) (not_M (is_m (context h)) _ (eqb h.v 1 && has t.cause (reg h hedeleg)) _ refl)
 
-  taken-passes : (to : Target) (n : ℕ) → chosen (context h) (lines h) ≡ To to n → Passing (delivered_to to h t)
+  taken-passes : (to : Target) (n : ℕ) → chosen (context h) (lines h) ≡ Some (to, n) → Passing (delivered_to to h t)
   taken-passes to n e = into to (λ other. taken-below h to n p.mode e other)
 
 -- ---- returns
@@ -260,11 +261,11 @@ only_M v p mode.M a b c = refl
 only_M v p mode.VU a b c = sym c
 only_M v p mode.VS a b c = sym c
 
-in_M : (h : Hart) (place : ℕ) (w : Bool) → Passing h → Allowed (verdict (context h) (row_of (at place)) w) → eqb (at place).level machine ≡ true → is_m (context h) ≡ true
+in_M : (h : Hart) (place : ℕ) (w : Bool) → Passing h → Allowed (verdict (context h) (row_of (at place)) w) → is_machine (row_of (at place)).level ≡ true → is_m (context h) ≡ true
 in_M h place w p a m =
     let c = context h in
     let row = row_of (at place) in
-    let k = machine-allowed (w && (at place).read_only) (is_u c) (is_hs c) (eqb h.v 1) (eqb (at place).level machine) (is_set TVM c.mstatus && (is_satp row || is_hgatp row)) a.not2 m in
+    let k = machine-allowed (w && (at place).read_only) (is_u c) (is_hs c) (eqb h.v 1) (is_machine (row_of (at place)).level) (is_set TVM c.mstatus && (is_satp row || is_hgatp row)) a.not2 m in
     only_M h.v h.privilege p.mode k.0 k.1 k.2
 
 -- a view of mstatus without MPRV
@@ -273,7 +274,7 @@ spares_mprv v = not (eqb v.home mstatus) || (eqb (get MPRV (up v.shift v.writes)
 
 -- one computed test: MPRV is written by M's numbers alone
 abbrev test : ℕ → Register → Bool
-test i r = eqb r.level machine || (spares_mprv r.view && spares_mprv r.twin)
+test i r = is_machine (row_of r).level || (spares_mprv r.view && spares_mprv r.twin)
 
 tested : every test 0 registers ≡ true
 unfolding every get
@@ -332,12 +333,12 @@ reaches-MPRV h place w p b a =
     ⊎_elim (λ m. inl (in_M h place w p a m))
     (λ t. split (spares_mprv (at place).view) (spares_mprv (at place).twin) t
     (λ o g. inr (pick_both (λ (v : View). spares_mprv v ≡ true) (eqb h.v 1) (at place).twin (at place).view (λ e. g) (λ e. o))))
-    (or_cases (eqb (at place).level machine) _ (every-at test registers (register 0 0 no_bits) tested place b))
+    (or_cases (is_machine (row_of (at place)).level) _ (every-at test registers (register 0 0 no_bits) tested place b))
 
 -- ---- every event
 
 leaves : (h : Hart) (s : Step) → length h.regs ≡ kept → Comes h s → refusal s.outcome ≡ 0 → passes s.hart ≡ true
-leaves h s l (refuses n z) r = clash (sym z ∙ eq-eqb n 0 r)
+leaves h s l (refuses x) r = absurd (some_number x r)
 leaves h s l (traps a t) r = passes_of (delivered h t) (delivered-passes h t (passing h a) l)
 leaves h s l (mrets a m) r = passes_of (returned_m h) (from_M h (passing h a) l)
 leaves h s l (srets_VS a v) r = passes_of (returned_vs h) (from_VS h (passing h a) l v)

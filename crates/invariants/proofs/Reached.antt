@@ -1,4 +1,5 @@
 -- Demand 3 of the hypervisor loads and stores: their list is that of a walk made for the guest. Assumes nothing.
+use Rattle.std.specs.Prelude.{Ok, Err}
 use mathlib.Core.Path.{◌≡◌, refl, sym, ap, subst, ◌∙◌}
 use mathlib.Core.Bool.{Bool, true, false, ◌||◌, not}
 use mathlib.Core.List.{List, [], ◌∷◌, ◌++◌}
@@ -10,6 +11,9 @@ use lib.Dec.{eqb}
 use lib.ListN.{length, take, drop}
 use lib.Seq.{take-append_seam, drop-append_seam}
 use borrow.Author.Tests.{eqb-true, not-false}
+use Rattle.std.specs.Prelude.{Result, Ok, Err}
+use Rattle.exceptions.specs.declared.Refusal.{Refusal}
+use Rattle.exceptions.specs.declared.Refusal.TheVariants as refusals
 use Rattle.bits.specs.Field.{pick, get}
 use Rattle.bits.proofs.Bools.{clash}
 use Rattle.registers.specs.Fields.{MXR, HU, MODE}
@@ -26,7 +30,7 @@ use Rattle.access.specs.Faults.{misalignment}
 use Rattle.access.proofs.Widths.{Aligned, a_power}
 use Rattle.stages.specs.declared.Read.{Read}
 use Rattle.stages.specs.Tree.{Ran, run}
-use Rattle.stages.specs.Stages.{yields, faults, look, machine, walk_of}
+use Rattle.stages.specs.Stages.{look, machine, walk_of}
 use Rattle.stages.specs.Listed.{places, most, unused}
 use Rattle.stages.specs.Through.{Agree, Shown, own_right, GuestEntry, AnsweredThrough}
 use Rattle.stages.proofs.Bounds.{most-places, at_most}
@@ -40,13 +44,13 @@ use Rattle.hypervisor.specs.Hypervisor.{End, by_operation, kind_of, refusal_of, 
 use Rattle.hypervisor.proofs.Taken.{taken, tables_for}
 use Rattle.hart.specs.declared.state.Hart.{Hart}
 use Rattle.hart.specs.declared.event.Step.{Step}
-use Rattle.hart.specs.declared.event.Stop.{Stop}
-use Rattle.hart.specs.declared.event.Stop.TheVariants.{Goes, Halts}
+use Rattle.hart.specs.declared.event.Halt.{Halt}
+use Rattle.hart.specs.declared.event.Halt.TheVariants.{Refuses, Raises}
 use Rattle.hart.specs.declared.guest.Reach.{Reach}
 use Rattle.hart.specs.Hart.{reg, context, paging, passes}
-use Rattle.hart.specs.Event.{refusal, is_done, refused, raised, trapped, refuses, raises, stop_of}
+use Rattle.hart.specs.Event.{refusal, is_done, refused, raised, trapped, unless_refused, stop_of}
 use Rattle.hart.specs.Guest.{ended, unwalked, arrived, reached_by, reach}
-use Rattle.translate.specs.Translated.{first_refusal}
+use Rattle.translate.specs.Translated.{first_refusal, refusal_number}
 use Rattle.translate.proofs.Demand.{not_empty}
 use Rattle.invariants.proofs.Settled.{stop_cases}
 
@@ -59,7 +63,7 @@ listed-walk h r = take-append_seam r.reads (unused (places - length r.reads))
 
 -- a misaligned access, and one that is none
 abbrev pub misaligned_one : Access → Ran End
-misaligned_one a = record { end = faults (misalignment a); reads = [] }
+misaligned_one a = record { end = Err (misalignment a); reads = [] }
 
 whole : (o : Operation) (address width : ℕ) → misaligned (kind_of o) address width ≡ false → address % width ≡ 0
 whole Hlv address width e = eqb-true _ _ (not-false _ e)
@@ -81,50 +85,50 @@ module _ (h : Hart) (o : Operation) (base : ℕ) (bytes : List ℕ) (width addre
   pub each : (P : Reach → Type 0) → ((s : Step) → is_done s.outcome ≡ false → P (unwalked s)) → (passes h ≡ true → Aligned address width → P (arrived h ran)) → P r
   unfolding reach walk_for
   each P u w =
-      stop_cases (λ (s : Stop). P (reached_by s h word (walk_for base bytes accessed))) h (refusal_of o base (length bytes) width) (hypervisor_access (context h)) (λ n z. u (refused h n) refl)
+      stop_cases (λ (s : Result Unit Halt). P (reached_by s h word (walk_for base bytes accessed))) h (refusal_of o base (length bytes) width) (hypervisor_access (context h)) (λ r. u (refused h r) refl)
       (λ p cause which. u (raised h cause word) refl) (λ p own no2 no22. goes p own (misaligned (kind_of o) address width) refl)
     where
-      goes : passes h ≡ true → refusal_of o base (length bytes) width ≡ 0 → (b : Bool) → misaligned (kind_of o) address width ≡ b → P (arrived h (pick b (misaligned_one accessed) ran))
+      goes : passes h ≡ true → refusal_of o base (length bytes) width ≡ Ok tt → (b : Bool) → misaligned (kind_of o) address width ≡ b → P (arrived h (pick b (misaligned_one accessed) ran))
       goes p own true e = u (trapped h (misalignment accessed)) refl
       goes p own false e = w p (a_power address width (taken o base (length bytes) width own).form (whole o address width e))
 
   -- what it comes to once nothing of its own stopped it is no refusal
   not-refused : (e : End) → refusal (ended h e).outcome ≡ 0
-  not-refused (yields m) = refl
-  not-refused (faults f) = refl
+  not-refused (Ok m) = refl
+  not-refused (Err f) = refl
 
   -- "refusal 2, 1, 3 (width not 1, 2, 4, 8; HLVX of 1 or 8)": it is refused exactly by the first of these
-  pub refused-by : refusal r.outcome ≡ first_refusal ((not (passes h), 2) ∷ (unfit base (length bytes), 1) ∷ (not (by_operation o (known width) (eqb width 2 || eqb width 4) (known width)), 3) ∷ [])
+  pub refused-by : refusal r.outcome ≡ refusal_number (first_refusal ((not (passes h), Refusal.Hart) ∷ (unfit base (length bytes), Refusal.Image) ∷ (not (by_operation o (known width) (eqb width 2 || eqb width 4) (known width)), Refusal.Access) ∷ []))
   unfolding reach refusal_of
   refused-by = go (not (passes h)) (unfit base (length bytes)) (not (by_operation o (known width) (eqb width 2 || eqb width 4) (known width)))
     where
       v : Verdict
       v = hypervisor_access (context h)
 
-      last : (a b : Bool) → refusal (reached_by (pick a (raises 2) (pick b (raises 22) Goes)) h word (walk_for base bytes accessed)).outcome ≡ 0
+      last : (a b : Bool) → refusal (reached_by (pick a (Err (Raises 2)) (pick b (Err (Raises 22)) (Ok (tt {0})))) h word (walk_for base bytes accessed)).outcome ≡ 0
       last true b = refl
       last false true = refl
       last false false = not-refused (walk_for base bytes accessed).end
 
-      go : (a b c : Bool) → let own : ℕ = pick b 1 (pick c 3 0) in
-          refusal (reached_by (pick a (refuses 2) (pick (not (eqb own 0)) (refuses own) (pick v.gives2 (raises 2) (pick v.gives22 (raises 22) Goes)))) h word (walk_for base bytes accessed)).outcome ≡ first_refusal ((a, 2) ∷ (b, 1) ∷ (c, 3) ∷ [])
+      go : (a b c : Bool) → let own : Result Unit Refusal = pick b (Err refusals.Image) (pick c (Err refusals.Access) (Ok tt)) in
+          refusal (reached_by (pick a (Err (Refuses refusals.Hart)) (unless_refused own (pick v.gives2 (Err (Raises 2)) (pick v.gives22 (Err (Raises 22)) (Ok tt))))) h word (walk_for base bytes accessed)).outcome ≡ refusal_number (first_refusal ((a, refusals.Hart) ∷ (b, refusals.Image) ∷ (c, refusals.Access) ∷ []))
       go true b c = refl
       go false true c = refl
       go false false true = refl
       go false false false = last v.gives2 v.gives22
 
   -- a refusal leaves the hart as given and the list empty
-  pub refusal_empty : 0 < refusal r.outcome → r ≡ unwalked (refused h (refusal r.outcome))
+  pub refusal_empty : 0 < refusal r.outcome → (x : Refusal) × (r ≡ unwalked (refused h x))
   unfolding reach
   refusal_empty = go (stop_of h (refusal_of o base (length bytes) width) (hypervisor_access (context h)))
     where
-      go : (s : Stop) → let x = reached_by s h word (walk_for base bytes accessed) in 0 < refusal x.outcome → x ≡ unwalked (refused h (refusal x.outcome))
-      go Goes l = absurd (omega (arith, l, not-refused (walk_for base bytes accessed).end))
-      go (Halts true n) l = refl
-      go (Halts false n) l = absurd (omega (arith, l))
+      go : (s : Result Unit Halt) → let r = reached_by s h word (walk_for base bytes accessed) in 0 < refusal r.outcome → (x : Refusal) × (r ≡ unwalked (refused h x))
+      go (Ok t) l = absurd (omega (arith, l, not-refused (walk_for base bytes accessed).end))
+      go (Err (Refuses x)) l = (x, refl)
+      go (Err (Raises n)) l = absurd (omega (arith, l))
 
   -- "V=1 gives 22; U with HU=0 gives 2", in order, with an empty list; else its walk, also with V=0 in U with HU=1, in HS and in M
-  module _ (p : passes h ≡ true) (own : refusal_of o base (length bytes) width ≡ 0) where
+  module _ (p : passes h ≡ true) (own : refusal_of o base (length bytes) width ≡ Ok tt) where
     pub gives_22 : h.v ≡ 1 → r ≡ unwalked (raised h 22 word)
     unfolding reach
     gives_22 v = rw (p, own, v)
@@ -202,8 +206,8 @@ module _ (h : Hart) (o : Operation) (base : ℕ) (bytes : List ℕ) (width addre
       where
         by_end : Aligned address width → (e : End) → ran.end ≡ e → is_done (arrived h (record { end = e; reads = ran.reads })).outcome ≡ true
             → AnsweredThrough vs g own address (listed (arrived h (record { end = e; reads = ran.reads }))) (machine (arrived h (record { end = e; reads = ran.reads })).at) width
-        by_end k (faults f) q d = clash d
-        by_end k (yields m) q d =
+        by_end k (Err f) q d = clash d
+        by_end k (Ok m) q d =
             rw (listed-walk h ran)
             (subst (λ (n : ℕ). AnsweredThrough vs g own address ran.reads m n) (sym k.size)
             ((guarded (look base bytes) base (length bytes) accessed second-on k.k k.small k.multiple).answer m q))
@@ -228,6 +232,6 @@ same-reach h o base s s' width address word e = rw (← e) (go (stop_of h (refus
     m : Bool
     m = misaligned (kind_of o) address width
 
-    go : (x : Stop) → Agree (look base s) (look base s') (listed (reached_by x h word (over m s))) → reached_by x h word (over m s') ≡ reached_by x h word (over m s)
-    go (Halts b n) k = refl
-    go Goes k = ap (arrived h) (walks m k)
+    go : (x : Result Unit Halt) → Agree (look base s) (look base s') (listed (reached_by x h word (over m s))) → reached_by x h word (over m s') ≡ reached_by x h word (over m s)
+    go (Err halt) k = refl
+    go (Ok t) k = ap (arrived h) (walks m k)

@@ -1,4 +1,5 @@
 -- Worked cases of the hypervisor loads and stores (2026-03), as one computed table. Assumes nothing.
+use Rattle.std.specs.Prelude.{Option, Some, None, Ok, Err}
 use mathlib.Core.Path.{◌≡◌, refl}
 use mathlib.Core.Bool.{Bool, true, false}
 use mathlib.Core.List.{List, [], ◌∷◌, ◌++◌}
@@ -6,6 +7,7 @@ use Prim.Native.Nat.{ℕ, ◌+◌}
 use lib.Dec.{eqb}
 use lib.ListN.{length, replicate}
 use lib.Seq.{sets}
+use Rattle.exceptions.specs.Refusal.{number}
 use Rattle.bits.specs.declared.Field.{Field}
 use Rattle.bits.specs.Field.{pick, get, put}
 use Rattle.bits.specs.Assign.{Assignment, ◌after◌, ◌:=◌}
@@ -14,8 +16,6 @@ use Rattle.registers.specs.Fields.{SPP, MPP, MPRV, SUM, MXR, GVA, MPV, HGVA, SPV
 use Rattle.registers.specs.Places.{scause, stval, satp, vsstatus, vsatp, mstatus, medeleg, mcause, mtval, mtinst, mtval2, hstatus, hedeleg, htval, hgatp}
 use Rattle.registers.specs.Rules.{legal}
 use Rattle.registers.specs.File.{Write, ◌↢◌, registers_pass}
-use Rattle.image.specs.declared.Entry.{Entry}
-use Rattle.image.specs.declared.Entry.TheVariants.{Value, Outside}
 use Rattle.image.specs.Image.{unfit, within}
 use Rattle.image.specs.Data.{little, bytes_at, extended, loaded, stored}
 use Rattle.rules.specs.Address as addresses
@@ -23,7 +23,7 @@ use Rattle.rules.specs.Entry.{malformed, bad_pointer, bad_leaf, faulty, judged}
 use Rattle.access.specs.declared.Machine.{Machine}
 use Rattle.effective.specs.Effective.{depth, first_root, second_root}
 use Rattle.stages.specs.Tree.{Ran, bind, run}
-use Rattle.stages.specs.Stages.{yields, faults, follow, inspect, down, begin, last, final, walk_of}
+use Rattle.stages.specs.Stages.{follow, inspect, down, begin, last, final, walk_of}
 use Rattle.hypervisor.specs.declared.Operation.{Operation}
 use Rattle.hypervisor.specs.declared.Operation.TheVariants.{Hlv, Hlvx, Hsv}
 use Rattle.hypervisor.specs.Hypervisor.{End, refusal_of, access_for, walk_for}
@@ -88,7 +88,7 @@ outcome p = of p.outcome
     of : Outcome → ℕ
     of Done = 0
     of (Trapped cause) = cause
-    of (Refused n) = 100 + n
+    of (Refused r) = 100 + number r
     of (Interrupted n) = 200
 
 -- over an empty image, where an access that goes through has an access fault: what it came to, and the hart after it
@@ -108,9 +108,9 @@ hsv-page h width address = (hsv h 0x80000000 page width address 0x11223344556677
 -- ---- walks, over entries alone
 
 -- these have values at their machine addresses, the first first; every other lies outside
-abbrev entries : List Write → Machine → Entry
-entries [] a = Outside
-entries (e ∷ es) a = pick (eqb a.0 e.place) (Value e.value) (entries es a)
+abbrev entries : List Write → Machine → Option ℕ
+entries [] a = None
+entries (e ∷ es) a = pick (eqb a.0 e.place) (Some e.value) (entries es a)
 
 -- Guest pages 6 to 9 are the machine's 80006 to 80009, by the second stage's tables at 80000000, 80004000 and 80005000; guest pages 6, 7 and 8 are the first
 -- stage's tables. Of page 9, which is at 1000 by these, the leaves of both stages are left out.
@@ -151,8 +151,8 @@ abbrev ends : Ran End → ℕ
 ends w = of w.end
   where
     of : End → ℕ
-    of (yields a) = a.0
-    of (faults f) = f.cause
+    of (Ok a) = a.0
+    of (Err f) = f.cause
 
 abbrev through : Operation → Hart → (first second : ℕ) → ℕ
 through o h first second = ends (walks (leaf first second) o h 0x1008)

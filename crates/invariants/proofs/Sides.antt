@@ -75,7 +75,7 @@ written_side h v x false = inl (λ p f. refl)
 
 side : (h : Hart) (s : Step) → Comes h s → OneSide h s.hart
 unfolding returned_m returned_hs returned_vs
-side h s (refuses n z) = inl (λ p f. refl)
+side h s (refuses r) = inl (λ p f. refl)
 side h s (traps a t) = trap_side h t
 side h s (mrets a m) = inr (outside_kept host (writes_mret h) h.regs refl)
 side h s (srets_VS a v) = inl (outside_kept guest (writes_vsret h) h.regs refl)

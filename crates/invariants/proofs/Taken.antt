@@ -5,12 +5,11 @@ use mathlib.Core.Logic.{◌↔◌}
 use Prim.Native.Nat.{ℕ, ◌≤◌}
 use native.Mathlib.Omega.{arith}
 use lib.Dec.{eqb}
+use Rattle.std.specs.Prelude.{Option, Some, None}
 use Rattle.bits.proofs.Bools.{and_left, clash}
 use Rattle.registers.specs.Places.{vsstatus}
 use Rattle.delivery.specs.declared.Target.{Target}
 use Rattle.delivery.specs.declared.Target.TheVariants.{M, HS, VS}
-use Rattle.interrupts.specs.declared.Due.{Due}
-use Rattle.interrupts.specs.declared.Due.TheVariants.{To, Nothing}
 use Rattle.interrupts.specs.Interrupts.{admits, due, order, chosen, interruption}
 use Rattle.interrupts.specs.First.{In, First}
 use Rattle.interrupts.proofs.Chosen.{rests_exactly, takes_exactly}
@@ -34,12 +33,12 @@ module _ (h : Hart) (p : passes h ≡ true) where
   pub interrupts_exactly : (n : ℕ) → ((interrupt h).outcome ≡ Interrupted n) ↔ ((to : Target) × First (context h) (lines h) to n)
   interrupts_exactly n = (forth (chosen (context h) (lines h)) refl, λ f. ap (λ (s : Step). s.outcome) (settles ∙ ap (taking h) ((takes_exactly (context h) (lines h) f.0 n).1 f.1)))
     where
-      forth : (d : Due) → chosen (context h) (lines h) ≡ d → (interrupt h).outcome ≡ Interrupted n → (to : Target) × First (context h) (lines h) to n
-      forth (To to m) e o =
+      forth : (d : Option (Target × ℕ)) → chosen (context h) (lines h) ≡ d → (interrupt h).outcome ≡ Interrupted n → (to : Target) × First (context h) (lines h) to n
+      forth (Some (to, m)) e o =
           let q : Interrupted m ≡ Interrupted n = sym (ap (λ (s : Step). s.outcome) (settles ∙ ap (taking h) e)) ∙ o in
           let k : m ≡ n = cc in
-          (to, (takes_exactly (context h) (lines h) to n).0 (e ∙ ap (To to) k))
-      forth Nothing e o = let q : Done ≡ Interrupted n = sym (ap (λ (s : Step). s.outcome) (settles ∙ ap (taking h) e)) ∙ o in clash (cc)
+          (to, (takes_exactly (context h) (lines h) to n).0 (e ∙ ap (λ (i : ℕ). Some (to, i)) k))
+      forth None e o = let q : Done ≡ Interrupted n = sym (ap (λ (s : Step). s.outcome) (settles ∙ ap (taking h) e)) ∙ o in clash (cc)
 
   pub rests_as_it_was : ((to : Target) (n : ℕ) → In n order → due (context h) (lines h) to n ≡ false) → ((interrupt h).hart ≡ h) × ((interrupt h).outcome ≡ Done)
   rests_as_it_was none =
@@ -49,7 +48,7 @@ module _ (h : Hart) (p : passes h ≡ true) where
 -- ---- never to a less privileged level
 
 -- the level lets interrupts through
-admitted : (h : Hart) (to : Target) (n : ℕ) → chosen (context h) (lines h) ≡ To to n → admits (context h) (reg h vsstatus) to ≡ true
+admitted : (h : Hart) (to : Target) (n : ℕ) → chosen (context h) (lines h) ≡ Some (to, n) → admits (context h) (reg h vsstatus) to ≡ true
 admitted h to n e = and_left (admits (context h) (reg h vsstatus) to) _ ((takes_exactly (context h) (lines h) to n).0 e).is_due
 
 -- to HS or VS only from a mode below M
@@ -65,7 +64,7 @@ below h to m a other = go h.v h.privilege to m a other
     go v q HS mode.M k n = clash k
     go v q VS mode.M k n = clash k
 
-pub taken-below : (h : Hart) (to : Target) (n : ℕ) → Mode h.v h.privilege → chosen (context h) (lines h) ≡ To to n → (to ≡ M → ⊥) → (eqb h.v 0 && eqb h.privilege 3) ≡ false
+pub taken-below : (h : Hart) (to : Target) (n : ℕ) → Mode h.v h.privilege → chosen (context h) (lines h) ≡ Some (to, n) → (to ≡ M → ⊥) → (eqb h.v 0 && eqb h.privilege 3) ≡ false
 taken-below h to n m e = below h to m (admitted h to n e)
 
 -- the privilege does not fall, and a hart outside the guest does not enter it
@@ -91,7 +90,7 @@ at_most_1 v q mode.VS e = omega arith
 not-guest : (h : Hart) → Mode h.v h.privilege → admits (context h) (reg h vsstatus) VS ≡ true → h.v ≡ 0 → ⊥
 not-guest h m a e = clash (rw e at a)
 
-upward : (h : Hart) (to : Target) (n : ℕ) → Mode h.v h.privilege → chosen (context h) (lines h) ≡ To to n → Upward h (delivered_to to h (interruption to n))
+upward : (h : Hart) (to : Target) (n : ℕ) → Mode h.v h.privilege → chosen (context h) (lines h) ≡ Some (to, n) → Upward h (delivered_to to h (interruption to n))
 unfolding delivered_m delivered_hs delivered_vs
 upward h M n m e = record { privilege = at_most_3 h.v h.privilege m; v = λ z. refl }
 upward h HS n m e = record { privilege = at_most_1 h.v h.privilege m (taken-below h HS n m e (λ x. clash (cc))); v = λ z. refl }
@@ -102,6 +101,6 @@ upward h VS n m e =
 pub takes_upward : (h : Hart) (n : ℕ) → passes h ≡ true → (interrupt h).outcome ≡ Interrupted n → Upward h (interrupt h).hart
 takes_upward h n p o = go (chosen (context h) (lines h)) refl
   where
-    go : (d : Due) → chosen (context h) (lines h) ≡ d → Upward h (interrupt h).hart
-    go (To to m) e = rw (settles h p, e) (upward h to m (passing h p).mode e)
-    go Nothing e = let q : Done ≡ Interrupted n = sym (ap (λ (s : Step). s.outcome) (settles h p ∙ ap (taking h) e)) ∙ o in clash (cc)
+    go : (d : Option (Target × ℕ)) → chosen (context h) (lines h) ≡ d → Upward h (interrupt h).hart
+    go (Some (to, m)) e = rw (settles h p, e) (upward h to m (passing h p).mode e)
+    go None e = let q : Done ≡ Interrupted n = sym (ap (λ (s : Step). s.outcome) (settles h p ∙ ap (taking h) e)) ∙ o in clash (cc)

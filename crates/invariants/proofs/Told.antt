@@ -6,6 +6,7 @@ use Prim.Native.Nat.{ℕ, ◌<◌, ◌^◌}
 use native.Mathlib.Omega.{arith}
 use lib.Dec.{eqb}
 use lib.ListN.{length}
+use Rattle.std.specs.Prelude.{Ok}
 use Rattle.bits.specs.declared.Field.{Field}
 use Rattle.bits.specs.Field.{pick, get, put}
 use Rattle.bits.specs.Assign.{Assignment, ◌after◌, ◌:=◌}
@@ -88,5 +89,5 @@ tells-plain h c value l = go (target (context h) (reg h medeleg) (reg h hedeleg)
 pub call_tells : (h : Hart) (cause : ℕ) → length h.regs ≡ kept → (run events.ecall h).outcome ≡ Trapped cause → told (run events.ecall h).hart ≡ record { cause = cause; value = 0; value2 = 0; word = 0; flag = false }
 unfolding run ecall
 call_tells h cause l =
-    settled_cases (λ (s : Step). s.outcome ≡ Trapped cause → told s.hart ≡ record { cause = cause; value = 0; value2 = 0; word = 0; flag = false }) h 0 (gives false false) no_value (trapped h (plain (call_cause (context h)) 0))
-    (λ n z e. clash (cc)) (λ p c which e. let k : c ≡ cause = cc in rw (← k) (tells-plain h c 0 l)) (λ p o a b e. let k : call_cause (context h) ≡ cause = cc in rw (← k) (tells-plain h (call_cause (context h)) 0 l))
+    settled_cases (λ (s : Step). s.outcome ≡ Trapped cause → told s.hart ≡ record { cause = cause; value = 0; value2 = 0; word = 0; flag = false }) h (Ok tt) (gives false false) no_value (trapped h (plain (call_cause (context h)) 0))
+    (λ r e. clash (cc)) (λ p c which e. let k : c ≡ cause = cc in rw (← k) (tells-plain h c 0 l)) (λ p o a b e. let k : call_cause (context h) ≡ cause = cc in rw (← k) (tells-plain h (call_cause (context h)) 0 l))

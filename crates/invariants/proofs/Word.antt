@@ -6,10 +6,11 @@ use mathlib.Core.Logic.{◌⊎◌, ⊎_elim, ◌≢◌}
 use Prim.Native.Nat.{ℕ}
 use lib.Dec.{eqb}
 use lib.ListN.{length}
+use Rattle.std.specs.Prelude.{Result, Option, Some, None}
+use Rattle.exceptions.specs.declared.Refusal.{Refusal}
 use Rattle.bits.proofs.Bools.{clash}
 use Rattle.registers.specs.Places.{kept, medeleg, hedeleg}
-use Rattle.table.specs.declared.Found.{Found}
-use Rattle.table.specs.declared.Found.TheVariants.{At, Nothing}
+use Rattle.table.specs.declared.Row.{Row}
 use Rattle.table.specs.Table.{table, first_at}
 use Rattle.delivery.specs.declared.Target.{Target}
 use Rattle.delivery.specs.declared.Target.TheVariants.{M, HS, VS}
@@ -19,7 +20,7 @@ use Rattle.hart.specs.declared.state.Hart.{Hart}
 use Rattle.hart.specs.declared.event.Outcome.{Outcome}
 use Rattle.hart.specs.declared.event.Outcome.TheVariants.{Trapped}
 use Rattle.hart.specs.declared.event.Step.{Step}
-use Rattle.hart.specs.declared.event.Stop.{Stop}
+use Rattle.hart.specs.declared.event.Halt.{Halt}
 use Rattle.hart.specs.Hart.{reg, context}
 use Rattle.hart.specs.Deliver.{delivered_m, delivered_hs, delivered_vs, delivered_to, delivered}
 use Rattle.hart.specs.Event.{plain, done, refused, raised, settled_by, settled}
@@ -56,7 +57,7 @@ module _ (h : Hart) (c w w' : ℕ) (l : length h.regs ≡ kept) where
 
 -- an instruction under two words: both times it is refused, raises a cause, or is done
 by_stop : (P : Step → Step → Type 0) (i : Instruction) (h : Hart) (w w' : ℕ)
-    → ((n : ℕ) → P (refused h n) (refused h n))
+    → ((x : Refusal) → P (refused h x) (refused h x))
     → ((c : ℕ) → (c ≡ 2) ⊎ (c ≡ 22) → P (raised h c w) (raised h c w'))
     → ((h' : Hart) → P (done h') (done h'))
     → P (run (executes i w) h) (run (executes i w') h)
@@ -64,7 +65,7 @@ unfolding run settled
 by_stop P i h w w' r c d =
     let s = settles_as i h in
     rw (s.settles w, s.settles w')
-    (stop_cases (λ (x : Stop). P (settled_by x h w (done s.finished)) (settled_by x h w' (done s.finished))) h s.own s.verdict (λ n z. r n) (λ p k q. c k q) (λ p o a b. d s.finished))
+    (stop_cases (λ (x : Result Unit Halt). P (settled_by x h w (done s.finished)) (settled_by x h w' (done s.finished))) h s.own s.verdict r (λ p k q. c k q) (λ p o a b. d s.finished))
 
 -- an instruction that traps does so with 2 or 22, and the level that takes the trap is told the word
 pub carries : (i : Instruction) (word : ℕ) (h : Hart) (cause : ℕ) → length h.regs ≡ kept → (run (executes i word) h).outcome ≡ Trapped cause → Carries cause word (run (executes i word) h).hart
@@ -93,11 +94,11 @@ nowhere_else i w w' h l =
     as_it_is h = record { v = refl; privilege = refl; pc = refl; regs = λ p f. refl }
 
 -- a register access answers the same value
-found_answers : (found : Found) (h : Hart) (own : ℕ) (form : Form) (x : ℕ) (b : Bool) (w w' : ℕ) → (access_found found h own form x b w).outcome ≡ (access_found found h own form x b w').outcome
+found_answers : (found : Option (ℕ × Row)) (h : Hart) (own : Result Unit Refusal) (form : Form) (x : ℕ) (b : Bool) (w w' : ℕ) → (access_found found h own form x b w).outcome ≡ (access_found found h own form x b w').outcome
     → (access_found found h own form x b w).value ≡ (access_found found h own form x b w').value
 unfolding access_row
-found_answers Nothing h own form x b w w' e = ap (λ (o : Outcome). value_of o 0) e
-found_answers (At place row) h own form x b w w' e = ap (λ (o : Outcome). value_of o (seen h (reaches h place))) e
+found_answers None h own form x b w w' e = ap (λ (o : Outcome). value_of o 0) e
+found_answers (Some (place, row)) h own form x b w w' e = ap (λ (o : Outcome). value_of o (seen h (reaches h place))) e
 
 pub same-value : (form : Form) (number x : ℕ) (b : Bool) (w w' : ℕ) (h : Hart) → (access h form number x b w).value ≡ (access h form number x b w').value
 unfolding run access

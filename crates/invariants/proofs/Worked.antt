@@ -7,6 +7,7 @@ use lib.Dec.{eqb}
 use Rattle.bits.specs.Field.{top, get, put}
 use Rattle.bits.specs.Assign.{◌after◌, ◌:=◌}
 use Rattle.bits.specs.Every.{every}
+use Rattle.exceptions.specs.Refusal.{number}
 use Rattle.registers.specs.Fields.{SIE, MIE, GVA}
 use Rattle.registers.specs.Places.{scause, stval, vsstatus, vstvec, vsepc, vscause, vstval, mstatus, medeleg, mideleg, mie, mtvec, mepc, mcause, mtval, mip, mtinst, mtval2, hedeleg, hideleg}
 use Rattle.registers.specs.Rules.{legal, stored}
@@ -54,7 +55,7 @@ taken h = of (interrupt h).outcome
     of : Outcome → ℕ
     of Done = 0
     of (Trapped cause) = 100
-    of (Refused n) = 100 + n
+    of (Refused r) = 100 + number r
     of (Interrupted n) = n
 
 abbrev cases : List Replay

@@ -1,12 +1,11 @@
 -- What a guest can learn: what must agree of two harts for an event to come to the same for it.
-use Rattle.std.specs.Prelude.{◌≡◌, Bool, true, ◌&&◌, ◌||◌, List, [], ◌∷◌, ℕ, eqb, leb, length, get_or}
+use Rattle.std.specs.Prelude.{◌≡◌, Bool, true, ◌&&◌, ◌||◌, List, [], ◌∷◌, ℕ, eqb, leb, length, get_or, Some}
 use Rattle.std.specs.Int.Bits.{bit_and}
 use Rattle.bits.specs.Field.{pick, get}
 use Rattle.registers.specs.Fields.{MXR, TW, VTVM, VTW, VTSR}
 use Rattle.registers.specs.Places.{kept, vsstatus, vsatp, mstatus, medeleg, mie, mip, hstatus, hedeleg, hideleg, hgatp}
 use Rattle.delivery.specs.declared.Target.{Target}
 use Rattle.delivery.specs.declared.Target.TheVariants.{VS}
-use Rattle.interrupts.specs.declared.Due.TheVariants.{To}
 use Rattle.interrupts.specs.Interrupts.{chosen}
 use Rattle.hart.specs.declared.state.Hart.{Hart}
 use Rattle.hart.specs.declared.event.Step.{Step}
@@ -61,7 +60,7 @@ pub record Alike (h h' : Hart) : Type 0 where
 
 -- no interrupt that is due goes to the host
 abbrev pub Undisturbed : Hart → Type 0
-Undisturbed h = (to : Target) (n : ℕ) → chosen (context h) (lines h) ≡ To to n → to ≡ VS
+Undisturbed h = (to : Target) (n : ℕ) → chosen (context h) (lines h) ≡ Some (to, n) → to ≡ VS
 
 -- An event comes to the same for the guest: outcome, mode, VS registers and the interrupts handed down, and pc unless it left the guest (then pc is the
 -- host's tvec).

@@ -1,6 +1,7 @@
 -- The word layout: how a hart, and what an event comes to, travel as words. (A translation's words: the crate listing.)
 use Rattle.std.specs.Prelude.{List, [], ◌∷◌, ◌++◌, ℕ, ◌+◌, ◌*◌, eqb, length, get_or, drop, replicate}
 use Rattle.bits.specs.Field.{pick}
+use Rattle.exceptions.specs.Refusal.{number}
 use Rattle.registers.specs.Places.{kept}
 use Rattle.hart.specs.declared.state.Hart.{Hart}
 use Rattle.hart.specs.declared.event.Outcome.{Outcome}
@@ -28,7 +29,7 @@ hart_of ws = pick (eqb (length ws) hart_size) (said ws) (said (replicate hart_si
 abbrev pub outcome_words : Outcome → List ℕ
 outcome_words Done = 0 ∷ 0 ∷ []
 outcome_words (Trapped cause) = 1 ∷ cause ∷ []
-outcome_words (Refused number) = 2 ∷ number ∷ []
+outcome_words (Refused r) = 2 ∷ number r ∷ []
 outcome_words (Interrupted number) = 3 ∷ number ∷ []
 
 -- An event's result: the next hart, and what the event came to.

@@ -89,7 +89,7 @@ fn outcome_words(o: Outcome) -> [u64; 2]
     match o {
         Outcome::Done => [0, 0],
         Outcome::Trapped(cause) => [1, cause],
-        Outcome::Refused(number) => [2, number],
+        Outcome::Refused(refusal) => [2, u64::from(refusal)],
         Outcome::Interrupted(number) => [3, number],
     }
 }

@@ -31,13 +31,13 @@ pub closed : (x : Answer) (out : List ℕ) (rs : List Read) → length out ≡ t
     → sets (answer_words x ++ (length rs ∷ drop list_at (sets out list_at (read_words rs)))) (list_at + 4 * length rs) (replicate (translation_size - (list_at + 4 * length rs)) 0)
     ≡ answer_words x ++ (length rs ∷ read_words (padded places rs))
 closed (Answer.Address m) out rs = closed_by (answer_words (Answer.Address m) ++ (length rs ∷ [])) out rs refl
-closed (Answer.Refused number) out rs = closed_by (answer_words (Answer.Refused number) ++ (length rs ∷ [])) out rs refl
+closed (Answer.Refused r) out rs = closed_by (answer_words (Answer.Refused r) ++ (length rs ∷ [])) out rs refl
 closed (Answer.Fault f) out rs = closed_by (answer_words (Answer.Fault f) ++ (length rs ∷ [])) out rs refl
 
 -- the answer's words and the count, written before what follows
 pub answer-written : (x : Answer) (count : ℕ) (out : List ℕ) → 7 ≤ length out → sets out 0 (answer_words x ++ (count ∷ [])) ≡ answer_words x ++ (count ∷ drop 7 out)
 answer-written (Answer.Address m) count out h = sets-eq (answer_words (Answer.Address m) ++ (count ∷ [])) out 0 h
-answer-written (Answer.Refused number) count out h = sets-eq (answer_words (Answer.Refused number) ++ (count ∷ [])) out 0 h
+answer-written (Answer.Refused r) count out h = sets-eq (answer_words (Answer.Refused r) ++ (count ∷ [])) out 0 h
 answer-written (Answer.Fault f) count out h = sets-eq (answer_words (Answer.Fault f) ++ (count ∷ [])) out 0 h
 
 pub answer-length : (x : Answer) (count : ℕ) (out : List ℕ) → 7 ≤ length out → length (answer_words x ++ (count ∷ drop 7 out)) ≡ length out

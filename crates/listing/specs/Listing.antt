@@ -8,7 +8,7 @@ use Rattle.translate.specs.Translated.{values}
 -- which case an answer is: 0 an address, 1 a fault, 2 a refusal
 abbrev pub case_of : Answer → ℕ
 case_of (Answer.Address m) = 0
-case_of (Answer.Refused number) = 2
+case_of (Answer.Refused r) = 2
 case_of (Answer.Fault f) = 1
 
 -- A translation's answer, 6 words: its case, and its values in five, the rest zero.

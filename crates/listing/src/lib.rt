@@ -10,7 +10,7 @@ ghost use Rattle.listing.specs.Taken.{kind_of, put_kind};
 use hart::state::Hart;
 use rules::Kind;
 use stages::PLACES;
-use translate::{Answer, Start};
+use translate::Answer;
 
 // Where the list begins, and how many words a translation's result takes.
 const LIST_AT: usize = 7;
@@ -51,7 +51,7 @@ fn put_answer(x: Answer, count: u64, out: &mut [u64])
 {
     match x {
         Answer::Address(m) => put_seven(&mut *out, 0, m.0, 0, 0, 0, 0, count),
-        Answer::Refused(number) => put_seven(&mut *out, 2, number, 0, 0, 0, 0, count),
+        Answer::Refused(r) => put_seven(&mut *out, 2, u64::from(r), 0, 0, 0, 0, count),
         Answer::Fault(f) => {
             let flag = bits::select(f.flag, 1, 0);
             put_seven(
@@ -76,16 +76,16 @@ fn translate_into(
 {
     let s = translate::starts(h, base, bytes.len() as u64, kind, address, width);
     match s {
-        Start::Answered(x) => {
+        Err(x) => {
             put_answer(x, 0, &mut *out);
             engine::clear(LIST_AT, TRANSLATION, &mut *out);
         }
-        Start::Walks(a) => {
+        Ok(a) => {
             let w = engine::walk_into(base, bytes, a, LIST_AT, &mut *out);
             let next = w.next;
             let reached = w.reached;
             let count = (next - LIST_AT) / 4;
-            put_answer(translate::answered(reached), count as u64, &mut *out);
+            put_answer(Answer::from(reached), count as u64, &mut *out);
             engine::clear(next, TRANSLATION, &mut *out);
         }
     }

@@ -1,4 +1,5 @@
 -- One entry's read, at either stage; the second stage's loop: what is left, from an entry on, is the whole. Assumes nothing.
+use Rattle.std.specs.Prelude.{Option, None, Result, Ok, Err}
 use mathlib.Core.Path.{◌≡◌, refl, sym, ap, ◌∙◌}
 use mathlib.Core.Bool.{true, false}
 use mathlib.Core.List.{List}
@@ -6,9 +7,8 @@ use Prim.Native.Nat.{ℕ, zero, suc, ◌+◌, ◌-◌, ◌*◌, ◌^◌, ◌<◌
 use native.Mathlib.Omega.{arith}
 use lib.ListN.{length}
 use lib.Seq.{length-sets}
+use Rattle.exceptions.specs.declared.Exception.{Exception}
 use Rattle.bits.specs.Field.{get}
-use Rattle.image.specs.declared.Entry.{Entry}
-use Rattle.image.specs.declared.Entry.TheVariants.{Outside}
 use Rattle.rules.specs.declared.Judgement.{Judgement}
 use Rattle.rules.specs.declared.Judgement.TheVariants.{Pointer, Leaf, Bad}
 use Rattle.rules.specs.Address.{well_formed, second, number, index_bits, index}
@@ -22,7 +22,7 @@ use Rattle.access.specs.declared.Guest.{Guest}
 use Rattle.access.specs.declared.Machine.{Machine}
 use Rattle.access.specs.Faults.{access_fault}
 use Rattle.stages.specs.Tree.{Walk, bind}
-use Rattle.stages.specs.Stages.{Result, yields, faults, Translation, ◌then◌, slot, follow, inspect, down, translation, machine}
+use Rattle.stages.specs.Stages.{Translation, ◌then◌, slot, follow, inspect, down, translation, machine}
 use Rattle.stages.proofs.Trees.{begin-off, begin-at}
 use Rattle.second_stage.specs.Words.{Into, onto, into, Sees}
 use Rattle.second_stage.specs.Place.{need_at, fault_at, second_at, below}
@@ -41,8 +41,8 @@ below_at t zero table h = absurd (omega arith)
 below_at t (suc l) table h = let e : suc l - 1 ≡ l = omega arith in rw e
 
 -- outside the image; read, listed and judged
-module _ {A : Type 0} (look : Machine → Entry) (tr : Translation A) (next : ℕ → Walk (Result A)) (level n : ℕ) (m : Machine) (out out' : List ℕ) where
-  pub entry-outside : (look m ≡ Outside) × (out' ≡ out) → into look (inspect tr level next m) out n ≡ onto out' n (faults tr.outside)
+module _ {A : Type 0} (look : Machine → Option ℕ) (tr : Translation A) (next : ℕ → Walk (Result A Exception)) (level n : ℕ) (m : Machine) (out out' : List ℕ) where
+  pub entry-outside : (look m ≡ None) × (out' ≡ out) → into look (inspect tr level next m) out n ≡ onto out' n (Err tr.outside)
   unfolding into inspect
   entry-outside e = rw (e.0, e.1)
 
@@ -51,7 +51,7 @@ module _ {A : Type 0} (look : Machine → Entry) (tr : Translation A) (next : �
   unfolding into inspect
   entry_read p s = rw (s.found, s.listed, s.judgement tr.need p)
 
-module _ {look : Machine → Entry} {t : Test} {stage level address : ℕ} {m : Machine} {n : ℕ} {out out' : List ℕ} {j : Judgement}
+module _ {look : Machine → Option ℕ} {t : Test} {stage level address : ℕ} {m : Machine} {n : ℕ} {out out' : List ℕ} {j : Judgement}
     (s : Sees look t stage level address m n out out' j) where
   pub kept : length out' ≡ length out
   kept = ap length s.listed ∙ simp length-sets
@@ -61,14 +61,14 @@ module _ {look : Machine → Entry} {t : Test} {stage level address : ℕ} {m : 
 
 -- ---- the second stage
 
-module _ (look : Machine → Entry) (a : Access) (left : ℕ) (g : Guest) (out₀ : List ℕ) (from : ℕ) where
+module _ (look : Machine → Option ℕ) (a : Access) (left : ℕ) (g : Guest) (out₀ : List ℕ) (from : ℕ) where
   abbrev levels : ℕ
   levels = a.second.levels
 
   abbrev stage : Translation Machine
   stage = second_at a left g
 
-  abbrev whole : Into (Result Machine)
+  abbrev whole : Into (Result Machine Exception)
   whole = into look (translation stage) out₀ from
 
   -- where the loop stands: what is left from an entry on is the whole stage
@@ -78,12 +78,12 @@ module _ (look : Machine → Entry) (a : Access) (left : ℕ) (g : Guest) (out�
     pub room : next + 4 * suc level ≤ length out
     pub size : length out ≡ length out₀
 
-  pub off : levels ≡ 0 → onto out₀ from (yields (machine g.0)) ≡ whole
+  pub off : levels ≡ 0 → onto out₀ from (Ok (machine g.0)) ≡ whole
   unfolding into
   off e = rw (begin-off stage levels e)
 
   module _ (on : 0 < levels) where
-    pub too_large : well_formed second levels g.0 ≡ false → onto out₀ from (faults (fault_at a left g)) ≡ whole
+    pub too_large : well_formed second levels g.0 ≡ false → onto out₀ from (Err (fault_at a left g)) ≡ whole
     unfolding into
     too_large w = rw (begin-at stage levels on, w)
 
@@ -99,26 +99,26 @@ module _ (look : Machine → Entry) (a : Access) (left : ℕ) (g : Guest) (out�
         }
 
 -- one entry of it
-module _ {look : Machine → Entry} {a : Access} {left : ℕ} {g : Guest} {out₀ : List ℕ} {from : ℕ} {out : List ℕ} {next level at : ℕ}
+module _ {look : Machine → Option ℕ} {a : Access} {left : ℕ} {g : Guest} {out₀ : List ℕ} {from : ℕ} {out : List ℕ} {next level at : ℕ}
     (d : Descends look a left g out₀ from out next level at) where
-  abbrev all : Into (Result Machine)
+  abbrev all : Into (Result Machine Exception)
   all = whole look a left g out₀ from
 
-  abbrev tables : ℕ → Walk (Result Machine)
+  abbrev tables : ℕ → Walk (Result Machine Exception)
   tables = below (second_at a left g) level
 
-  pub outside : {out' : List ℕ} → (look (machine at) ≡ Outside) × (out' ≡ out) → onto out' next (faults (access_fault a)) ≡ all
+  pub outside : {out' : List ℕ} → (look (machine at) ≡ None) × (out' ≡ out) → onto out' next (Err (access_fault a)) ≡ all
   outside {out'} e = sym (entry-outside look (second_at a left g) tables level next (machine at) out out' e) ∙ d.same
 
   module _ {t : Test} {out' : List ℕ} {j : Judgement} (p : t ≡ test_of (need_at a left)) (s : Sees look t 2 level g.0 (machine at) next out out' j) where
     read : into look (follow (second_at a left g) j tables) out' (next + 4) ≡ all
     read = sym (entry_read look (second_at a left g) tables level next (machine at) out out' p s) ∙ d.same
 
-    pub bad : j ≡ Bad → onto out' (next + 4) (faults (fault_at a left g)) ≡ all
+    pub bad : j ≡ Bad → onto out' (next + 4) (Err (fault_at a left g)) ≡ all
     unfolding into follow
     bad e = rw e at read
 
-    pub leaf : {x : ℕ} → j ≡ Leaf x → onto out' (next + 4) (yields (machine x)) ≡ all
+    pub leaf : {x : ℕ} → j ≡ Leaf x → onto out' (next + 4) (Ok (machine x)) ≡ all
     unfolding into follow
     leaf e = rw e at read
 

@@ -1,5 +1,5 @@
 -- What the second stage is asked for, and where its code stands between two reads. Serves contracts below the public face.
-use Rattle.std.specs.Prelude.{ℕ, zero, suc, ◌^◌, ◌<◌, ◌≤◌, eqb}
+use Rattle.std.specs.Prelude.{ℕ, zero, suc, ◌^◌, ◌<◌, ◌≤◌, eqb, Result, Err}
 use Rattle.bits.specs.Field.{pick}
 use Rattle.exceptions.specs.declared.Exception.{Exception}
 use Rattle.rules.specs.declared.Need.{Need}
@@ -9,7 +9,7 @@ use Rattle.access.specs.declared.Machine.{Machine}
 use Rattle.access.specs.Needs.{second_need, entry_need}
 use Rattle.access.specs.Faults.{guest_page_fault, entry_fault}
 use Rattle.stages.specs.Tree.{Walk, done}
-use Rattle.stages.specs.Stages.{Result, faults, Translation, down, second_of}
+use Rattle.stages.specs.Stages.{Translation, down, second_of}
 
 -- what the second stage needs and raises: for the access itself where no first-stage level is left, else for a guest entry
 abbrev pub need_at : Access → ℕ → Need
@@ -22,8 +22,8 @@ abbrev pub second_at : Access → ℕ → Guest → Translation Machine
 second_at a left g = second_of a (need_at a left) (fault_at a left g) g
 
 -- where a pointer at a level leads
-unfoldable pub below : {A : Type 0} → Translation A → ℕ → ℕ → Walk (Result A)
-below t zero table = done (faults t.fault)
+unfoldable pub below : {A : Type 0} → Translation A → ℕ → ℕ → Walk (Result A Exception)
+below t zero table = done (Err t.fault)
 below t (suc l) table = down t l table
 
 -- tables of at most five levels, below 2 ^ 56

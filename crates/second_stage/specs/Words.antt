@@ -1,26 +1,11 @@
--- A walk's end as the code has it, and its run into the words of a slice, from an index on. Serves contracts below the public face.
-use Rattle.std.specs.Prelude.{◌≡◌, List, [], ◌∷◌, ℕ, ◌+◌}
+-- A walk's run into the words of a slice, from an index on. Serves contracts below the public face.
+use Rattle.std.specs.Prelude.{◌≡◌, List, [], ◌∷◌, ℕ, ◌+◌, Option, Some, None}
 use Rattle.std.proofs.lemmas.List.Edits.{sets}
-use Rattle.image.specs.declared.Entry.{Entry}
-use Rattle.image.specs.declared.Entry.TheVariants.{Value, Outside}
 use Rattle.rules.specs.declared.Test.{Test}
 use Rattle.rules.specs.declared.Judgement.{Judgement}
 use Rattle.rules.specs.Test.{Judges}
 use Rattle.access.specs.declared.Machine.{Machine}
 use Rattle.stages.specs.Tree.{Walk, done, ask, found}
-use Rattle.stages.specs.Stages.{Result, yields, faults}
-use Rattle.second_stage.specs.declared.Seen.{Seen}
-use Rattle.second_stage.specs.declared.Reached.{Reached}
-use Rattle.second_stage.specs.declared.Reached.TheVariants.{At, Failed}
-
--- a walk's result as the code has it, and back
-abbrev pub reached : Result Machine → Reached
-reached (yields m) = At m
-reached (faults f) = Failed f
-
-abbrev pub result_of : Reached → Result Machine
-result_of (At m) = yields m
-result_of (Failed f) = faults f
 
 -- what a slice holds, the index behind the last read's words, and the walk's end
 pub record Into (A : Type 0) : Type 0 where
@@ -36,18 +21,18 @@ abbrev pub stored : List ℕ → ℕ → (stage level at value : ℕ) → List �
 stored ws n s l m v = sets ws n (s ∷ l ∷ m ∷ v ∷ [])
 
 -- a walk's run (`run` of stages), its reads stored one behind the other
-unfoldable pub into : {A : Type 0} → (Machine → Entry) → Walk A → List ℕ → ℕ → Into A
+unfoldable pub into : {A : Type 0} → (Machine → Option ℕ) → Walk A → List ℕ → ℕ → Into A
 into look (done x) ws n = onto ws n x
 into look (ask s l m outside k) ws n = found (look m) (into look outside ws n) (λ v. into look (k v) (stored ws n s l m.0 v) (n + 4))
 
 -- an entry was found, its read is listed, and this is what it is to whoever needs what is tested
-pub record Sees (look : Machine → Entry) (t : Test) (stage level address : ℕ) (m : Machine) (n : ℕ) (before after : List ℕ) (j : Judgement) : Type 0 where
+pub record Sees (look : Machine → Option ℕ) (t : Test) (stage level address : ℕ) (m : Machine) (n : ℕ) (before after : List ℕ) (j : Judgement) : Type 0 where
   pub value : ℕ
-  pub found : look m ≡ Value value
+  pub found : look m ≡ Some value
   pub listed : after ≡ stored before n stage level m.0 value
   pub judgement : Judges t level address value j
 
 -- this, or nothing of the image is there and nothing was listed
-abbrev pub Inspects : (Machine → Entry) → Test → (stage level address : ℕ) → Machine → ℕ → (before after : List ℕ) → Seen → Type 0
-Inspects look t stage level address m n before after (Seen.Entry j) = Sees look t stage level address m n before after j
-Inspects look t stage level address m n before after Seen.Outside = (look m ≡ Outside) × (after ≡ before)
+abbrev pub Inspects : (Machine → Option ℕ) → Test → (stage level address : ℕ) → Machine → ℕ → (before after : List ℕ) → Option Judgement → Type 0
+Inspects look t stage level address m n before after (Some j) = Sees look t stage level address m n before after j
+Inspects look t stage level address m n before after None = (look m ≡ None) × (after ≡ before)

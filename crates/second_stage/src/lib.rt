@@ -5,32 +5,18 @@ ghost use Rattle.std.specs.Prelude.{◌≡◌, ◌+◌, ◌-◌, ◌*◌, ◌^�
 ghost use Rattle.rules.specs.Test.{test_of};
 ghost use Rattle.stages.specs.Stages.{machine, look, translation};
 ghost use Rattle.second_stage.specs.Place.{need_at, fault_at, second_at, Tables};
-ghost use Rattle.second_stage.specs.Words.{result_of, onto, stored, into, Inspects};
+ghost use Rattle.second_stage.specs.Words.{onto, stored, into, Inspects};
 
 use access::{Access, Guest, Machine};
 use exceptions::Exception;
-use image::{Entry, fetch_below};
+use image::fetch_below;
 use rules::{Judgement, Test};
-
-// How a stage, and the whole walk, ends.
-#[derive(Clone, Copy)]
-pub enum Reached {
-    At(Machine),
-    Failed(Exception),
-}
 
 // What a stage or the whole walk came to, and the index behind the words of its reads.
 #[derive(Clone, Copy)]
 pub struct Progress {
     pub next: usize,
-    pub reached: Reached,
-}
-
-// What stands at a machine address: an entry, judged, or nothing of the image.
-#[derive(Clone, Copy)]
-pub enum Seen {
-    Entry(Judgement),
-    Outside,
+    pub reached: Result<Machine, Exception>,
 }
 
 // One read's words, from an index on.
@@ -44,7 +30,7 @@ pub fn put(out: &mut [u64], next: usize, stage: u64, level: u64, at: u64, e: u64
     out[next + 3] = e;
 }
 
-// An entry of either stage: read, listed in out from an index on, and judged for an address.
+// An entry of either stage: read, listed in out from an index on, and judged for an address. None is outside the image.
 pub fn inspect(
     base: u64,
     limit: u64,
@@ -56,15 +42,13 @@ pub fn inspect(
     at: Machine,
     next: usize,
     out: &mut [u64],
-) -> Seen
+) -> Option<Judgement>
     requires { (base + length bytes.now ≤ 2 ^ 56) × (limit ≡ length bytes.now - 7) × (level < 5) × (next + 4 ≤ length out.old) }
     ensures { Inspects (look base bytes.now) t stage level address at next out.old out.new result }
 {
-    let Entry::Value(e) = fetch_below(base, limit, bytes, at.0) else {
-        return Seen::Outside;
-    };
+    let e = fetch_below(base, limit, bytes, at.0)?;
     put(&mut *out, next, stage, level, at.0, e);
-    Seen::Entry(t.judge(level, address, e))
+    Some(t.judge(level, address, e))
 }
 
 // What the second stage asks of a leaf, with so many first-stage levels left.
@@ -106,7 +90,7 @@ pub fn walk(
     out: &mut [u64],
 ) -> Progress
     requires { (base + length bytes.now ≤ 2 ^ 56) × (limit ≡ length bytes.now - 7) × Tables a × (from + 4 * a.second.levels ≤ length out.old) }
-    ensures { onto out.new result.next (result_of result.reached) ≡ into (look base bytes.now) (translation (second_at a left guest)) out.old from }
+    ensures { onto out.new result.next result.reached ≡ into (look base bytes.now) (translation (second_at a left guest)) out.old from }
 {
     let tables = a.second;
     let levels = tables.levels;
@@ -115,13 +99,13 @@ pub fn walk(
     if levels == 0 {
         return Progress {
             next,
-            reached: Reached::At(passed(guest)),
+            reached: Ok(passed(guest)),
         };
     }
     if !rules::is_small(levels, address) {
         return Progress {
             next,
-            reached: Reached::Failed(fault(a, left, guest)),
+            reached: Err(fault(a, left, guest)),
         };
     }
     let t = test(a, left);
@@ -140,10 +124,10 @@ pub fn walk(
             next,
             &mut *out,
         );
-        let Seen::Entry(j) = seen else {
+        let Some(j) = seen else {
             return Progress {
                 next,
-                reached: Reached::Failed(a.access_fault()),
+                reached: Err(a.access_fault()),
             };
         };
         next = next + 4;
@@ -151,13 +135,13 @@ pub fn walk(
             Judgement::Bad => {
                 return Progress {
                     next,
-                    reached: Reached::Failed(fault(a, left, guest)),
+                    reached: Err(fault(a, left, guest)),
                 };
             }
             Judgement::Leaf(x) => {
                 return Progress {
                     next,
-                    reached: Reached::At(Machine(x)),
+                    reached: Ok(Machine(x)),
                 };
             }
             Judgement::Pointer(table) => {

@@ -1,4 +1,5 @@
 -- How many entries a walk reads: bounds compose. Assumes nothing.
+use Rattle.std.specs.Prelude.{Option, Some, None, Result, Ok, Err}
 use mathlib.Core.Path.{◌≡◌}
 use mathlib.Core.Bool.{Bool, true, false}
 use Prim.Native.Nat.{ℕ, zero, suc, ◌+◌, ◌*◌, ◌≤◌, zero-le, suc-le-suc}
@@ -6,8 +7,6 @@ use native.Mathlib.Nat.{add_comm, suc-add, zero-mul, suc-mul, add-zero, mul-one,
 use native.Mathlib.Omega.{arith}
 use lib.ListN.{length}
 use Rattle.bits.specs.Field.{pick}
-use Rattle.image.specs.declared.Entry.{Entry}
-use Rattle.image.specs.declared.Entry.TheVariants.{Value, Outside}
 use Rattle.exceptions.specs.declared.Exception.{Exception}
 use Rattle.rules.specs.declared.Need.{Need}
 use Rattle.rules.specs.declared.Judgement.{Judgement}
@@ -20,7 +19,7 @@ use Rattle.access.specs.declared.Machine.{Machine}
 use Rattle.access.specs.Needs.{second_need}
 use Rattle.access.specs.Faults.{guest_page_fault}
 use Rattle.stages.specs.Tree.{Walk, done, ask, bind, item, listed, found, run}
-use Rattle.stages.specs.Stages.{Result, yields, faults, Translation, ◌then◌, follow, inspect, down, begin, translation, second_of, first_of, last, final, walk_of}
+use Rattle.stages.specs.Stages.{Translation, ◌then◌, follow, inspect, down, begin, translation, second_of, first_of, last, final, walk_of}
 use Rattle.stages.specs.Listed.{places, most}
 
 -- a walk asks at most n times on any way
@@ -29,39 +28,39 @@ Within (done a) n = Unit {0}
 Within (ask s l m outside k) zero = ⊥
 Within (ask s l m outside k) (suc n) = Within outside (suc n) × ((v : ℕ) → Within (k v) n)
 
-pub within-run : {A : Type 0} (look : Machine → Entry) (w : Walk A) (n : ℕ) → Within w n → length (run look w).reads ≤ n
+pub within-run : {A : Type 0} (look : Machine → Option ℕ) (w : Walk A) (n : ℕ) → Within w n → length (run look w).reads ≤ n
 unfolding run
 within-run look (done a) n h = zero-le
 within-run look (ask s l m outside k) zero h = absurd h
 within-run {A} look (ask s l m outside k) (suc n) h = go (look m) (within-run look outside (suc n) h.0) (λ v. within-run look (k v) n (h.1 v))
   where
-    go : (e : Entry) → length (run look outside).reads ≤ suc n → ((v : ℕ) → length (run look (k v)).reads ≤ n)
+    go : (e : Option ℕ) → length (run look outside).reads ≤ suc n → ((v : ℕ) → length (run look (k v)).reads ≤ n)
         → length (found e (run look outside) (λ v. listed (item s l m v) (run look (k v)))).reads ≤ suc n
-    go Outside io ik = io
-    go (Value v) io ik = suc-le-suc (ik v)
+    go None io ik = io
+    go (Some v) io ik = suc-le-suc (ik v)
 
 pub within_more : {A : Type 0} (w : Walk A) (n j : ℕ) → Within w n → Within w (n + j)
 within_more (done a) n j h = tt
 within_more (ask s l m outside k) zero j h = absurd h
 within_more (ask s l m outside k) (suc n) j h = rw suc-add (rw suc-add at (within_more outside (suc n) j h.0), λ v. within_more (k v) n j (h.1 v))
 
-pub within_then : {A B : Type 0} (w : Walk (Result A)) (f : A → Walk (Result B)) (n j : ℕ) → Within w n → ((a : A) → Within (f a) j) → Within (w then f) (n + j)
+pub within_then : {A B : Type 0} (w : Walk (Result A Exception)) (f : A → Walk (Result B Exception)) (n j : ℕ) → Within w n → ((a : A) → Within (f a) j) → Within (w then f) (n + j)
 unfolding bind
-within_then (done (yields a)) f n j h g = rw (add_comm n j) (within_more (f a) j n (g a))
-within_then (done (faults x)) f n j h g = tt
+within_then (done (Ok a)) f n j h g = rw (add_comm n j) (within_more (f a) j n (g a))
+within_then (done (Err x)) f n j h g = tt
 within_then (ask s l m outside k) f zero j h g = absurd h
 within_then (ask s l m outside k) f (suc n) j h g = rw suc-add (rw suc-add at (within_then outside f (suc n) j h.0 g), λ v. within_then (k v) f n j (h.1 v) g)
 
 -- ---- a stage of either kind, whose entries' own addresses take at most k reads each
 
 module _ {A : Type 0} (t : Translation A) (k : ℕ) (through : (x : ℕ) → Within (t.through x) k) where
-  within-follow : (d : Judgement) (next : ℕ → Walk (Result A)) (n : ℕ) → ((x : ℕ) → Within (next x) n) → Within (follow t d next) n
+  within-follow : (d : Judgement) (next : ℕ → Walk (Result A Exception)) (n : ℕ) → ((x : ℕ) → Within (next x) n) → Within (follow t d next) n
   unfolding follow
   within-follow Bad next n h = tt
   within-follow (Leaf x) next n h = tt
   within-follow (Pointer x) next n h = h x
 
-  within_visit : (level x : ℕ) (next : ℕ → Walk (Result A)) (n : ℕ) → ((x : ℕ) → Within (next x) n) → Within (t.through x then inspect t level next) (k + suc n)
+  within_visit : (level x : ℕ) (next : ℕ → Walk (Result A Exception)) (n : ℕ) → ((x : ℕ) → Within (next x) n) → Within (t.through x then inspect t level next) (k + suc n)
   unfolding inspect
   within_visit level x next n h =
       within_then (t.through x) (inspect t level next) k (suc n) (through x)
@@ -77,7 +76,7 @@ module _ {A : Type 0} (t : Translation A) (k : ℕ) (through : (x : ℕ) → Wit
   within-begin zero = tt
   within-begin (suc l) = go (well_formed t.stage (suc l) t.address)
     where
-      go : (b : Bool) → Within (pick b (down t l (t.tables.ppn * 4096)) (done (faults t.fault))) (suc l * suc k)
+      go : (b : Bool) → Within (pick b (down t l (t.tables.ppn * 4096)) (done (Err t.fault))) (suc l * suc k)
       go true = within-down l (t.tables.ppn * 4096)
       go false = tt
 
@@ -109,5 +108,5 @@ module _ (a : Access) where
       (within_then (translation (first_of a)) (final base len a) (a.first.levels * suc a.second.levels) a.second.levels
       (within-begin (first_of a) a.second.levels (λ x. within-second _ _ _) a.first.levels) (within-final base len))
 
-  pub at_most : (base len : ℕ) (look : Machine → Entry) → length (run look (walk_of base len a)).reads ≤ most a.first.levels a.second.levels
+  pub at_most : (base len : ℕ) (look : Machine → Option ℕ) → length (run look (walk_of base len a)).reads ≤ most a.first.levels a.second.levels
   at_most base len look = within-run look (walk_of base len a) _ (within-walk base len)

@@ -1,4 +1,5 @@
 -- What may be stored may be loaded: where a store's walk ends with an address, the load's reads the same entries and ends there too. Assumes nothing.
+use Rattle.std.specs.Prelude.{Option, Some, None, Result, Ok, Err}
 use mathlib.Core.Path.{◌≡◌, refl, sym, ap, ◌∙◌}
 use mathlib.Core.Bool.{Bool, true, false, ◌&&◌, ◌||◌, not}
 use mathlib.Core.Logic.{◌⊎◌, inl, inr}
@@ -7,8 +8,6 @@ use lib.Dec.{eqb}
 use Rattle.bits.specs.Field.{pick, span, get, has}
 use Rattle.bits.proofs.Bools.{clash, or_left, or_right}
 use Rattle.exceptions.specs.declared.Exception.{Exception}
-use Rattle.image.specs.declared.Entry.{Entry}
-use Rattle.image.specs.declared.Entry.TheVariants.{Value, Outside}
 use Rattle.image.specs.Image.{within}
 use Rattle.rules.specs.declared.Kind.{Kind}
 use Rattle.rules.specs.declared.Kind.TheVariants.{Load, Store}
@@ -26,32 +25,32 @@ use Rattle.access.specs.declared.Root.{Root}
 use Rattle.access.specs.Needs.{need_of, first_need, second_need, entry_need}
 use Rattle.access.specs.Faults.{access_fault, page_fault, guest_page_fault, entry_fault}
 use Rattle.stages.specs.Tree.{Walk, done, ask, bind, item, listed, found, run}
-use Rattle.stages.specs.Stages.{Result, yields, faults, ◌then◌, Translation, follow, inspect, down, begin, translation, guest, machine, last, final, walk_of}
+use Rattle.stages.specs.Stages.{◌then◌, Translation, follow, inspect, down, begin, translation, guest, machine, last, final, walk_of}
 
 -- one walk asks what another does, and ends as it does unless that one faults
-pub data Follows {A : Type 0} : Walk (Result A) → Walk (Result A) → Type 0 where
-  faulted : (f : Exception) (w : Walk (Result A)) → Follows (done (faults f)) w
-  ends : (x : Result A) → Follows (done x) (done x)
-  asks : (stage level : ℕ) (m : Machine) {o o' : Walk (Result A)} {k k' : ℕ → Walk (Result A)} → Follows o o' → ((v : ℕ) → Follows (k v) (k' v)) → Follows (ask stage level m o k) (ask stage level m o' k')
+pub data Follows {A : Type 0} : Walk (Result A Exception) → Walk (Result A Exception) → Type 0 where
+  faulted : (f : Exception) (w : Walk (Result A Exception)) → Follows (done (Err f)) w
+  ends : (x : Result A Exception) → Follows (done x) (done x)
+  asks : (stage level : ℕ) (m : Machine) {o o' : Walk (Result A Exception)} {k k' : ℕ → Walk (Result A Exception)} → Follows o o' → ((v : ℕ) → Follows (k v) (k' v)) → Follows (ask stage level m o k) (ask stage level m o' k')
 
-follows_then : {A B : Type 0} {w w' : Walk (Result A)} {f f' : A → Walk (Result B)} → Follows w w' → ((a : A) → Follows (f a) (f' a)) → Follows (w then f) (w' then f')
+follows_then : {A B : Type 0} {w w' : Walk (Result A Exception)} {f f' : A → Walk (Result B Exception)} → Follows w w' → ((a : A) → Follows (f a) (f' a)) → Follows (w then f) (w' then f')
 unfolding bind
 follows_then (faulted x w) g = faulted x _
-follows_then (ends (yields a)) g = g a
-follows_then (ends (faults x)) g = faulted x _
+follows_then (ends (Ok a)) g = g a
+follows_then (ends (Err x)) g = faulted x _
 follows_then (asks s l m h k) g = asks s l m (follows_then h g) (λ v. follows_then (k v) g)
 
-follows_run : {A : Type 0} (look : Machine → Entry) {w w' : Walk (Result A)} → Follows w w' → (a : A) → (run look w).end ≡ yields a → run look w' ≡ run look w
+follows_run : {A : Type 0} (look : Machine → Option ℕ) {w w' : Walk (Result A Exception)} → Follows w w' → (a : A) → (run look w).end ≡ Ok a → run look w' ≡ run look w
 unfolding run
 follows_run look (faulted f w) a e = clash (cc)
 follows_run look (ends x) a e = refl
 follows_run {A} look (asks s l m {o} {o'} {k} {k'} h g) a e = go (look m) (follows_run look h a) (λ v. follows_run look (g v) a) e
   where
-    go : (x : Entry) → ((run look o).end ≡ yields a → run look o' ≡ run look o) → ((v : ℕ) → (run look (k v)).end ≡ yields a → run look (k' v) ≡ run look (k v))
-        → (found x (run look o) (λ v. listed (item s l m v) (run look (k v)))).end ≡ yields a
+    go : (x : Option ℕ) → ((run look o).end ≡ Ok a → run look o' ≡ run look o) → ((v : ℕ) → (run look (k v)).end ≡ Ok a → run look (k' v) ≡ run look (k v))
+        → (found x (run look o) (λ v. listed (item s l m v) (run look (k v)))).end ≡ Ok a
         → found x (run look o') (λ v. listed (item s l m v) (run look (k' v))) ≡ found x (run look o) (λ v. listed (item s l m v) (run look (k v)))
-    go Outside io ik q = io q
-    go (Value v) io ik q = ap (listed (item s l m v)) (ik v q)
+    go None io ik q = io q
+    go (Some v) io ik q = ap (listed (item s l m v)) (ik v q)
 
 -- ---- a stage, with other needs and faults
 
@@ -60,24 +59,24 @@ abbrev Takes : Need → Need → Type 0
 Takes n n' = (level address e : ℕ) → (judged n level address e ≡ Bad) ⊎ (judged n' level address e ≡ judged n level address e)
 
 module _ {A : Type 0} (stage : Stage) (tables : Root) (address : ℕ) (wrap : ℕ → A) where
-  abbrev stage-of : Need → (fault outside : Exception) → (ℕ → Walk (Result Machine)) → Translation A
+  abbrev stage-of : Need → (fault outside : Exception) → (ℕ → Walk (Result Machine Exception)) → Translation A
   stage-of n f x through = record { stage = stage; tables = tables; address = address; need = n; fault = f; outside = x; through = through; wrap = wrap }
 
-  module _ (n n' : Need) (f f' x x' : Exception) (through through' : ℕ → Walk (Result Machine)) (takes : Takes n n') (t-follows : (y : ℕ) → Follows (through y) (through' y)) where
+  module _ (n n' : Need) (f f' x x' : Exception) (through through' : ℕ → Walk (Result Machine Exception)) (takes : Takes n n') (t-follows : (y : ℕ) → Follows (through y) (through' y)) where
     abbrev t : Translation A
     t = stage-of n f x through
 
     abbrev t' : Translation A
     t' = stage-of n' f' x' through'
 
-    follows_judged : (d d' : Judgement) → (d ≡ Bad) ⊎ (d' ≡ d) → (next next' : ℕ → Walk (Result A)) → ((y : ℕ) → Follows (next y) (next' y)) → Follows (follow t d next) (follow t' d' next')
+    follows_judged : (d d' : Judgement) → (d ≡ Bad) ⊎ (d' ≡ d) → (next next' : ℕ → Walk (Result A Exception)) → ((y : ℕ) → Follows (next y) (next' y)) → Follows (follow t d next) (follow t' d' next')
     unfolding follow
     follows_judged d d' (inl e) next next' h = rw e (faulted f _)
     follows_judged (Pointer y) d' (inr e) next next' h = rw e (h y)
-    follows_judged (Leaf y) d' (inr e) next next' h = rw e (ends (yields (wrap y)))
+    follows_judged (Leaf y) d' (inr e) next next' h = rw e (ends (Ok (wrap y)))
     follows_judged Bad d' (inr e) next next' h = faulted f _
 
-    follows_inspect : (level : ℕ) (next next' : ℕ → Walk (Result A)) → ((y : ℕ) → Follows (next y) (next' y)) → (m : Machine) → Follows (inspect t level next m) (inspect t' level next' m)
+    follows_inspect : (level : ℕ) (next next' : ℕ → Walk (Result A Exception)) → ((y : ℕ) → Follows (next y) (next' y)) → (m : Machine) → Follows (inspect t level next m) (inspect t' level next' m)
     unfolding inspect
     follows_inspect level next next' h m = asks _ level m (faulted x _) (λ e. follows_judged (judged n level address e) (judged n' level address e) (takes level address e) next next' h)
 
@@ -91,7 +90,7 @@ module _ {A : Type 0} (stage : Stage) (tables : Root) (address : ℕ) (wrap : �
     follows_begin zero = ends _
     follows_begin (suc l) = go (well_formed stage (suc l) address)
       where
-        go : (b : Bool) → Follows (pick b (down t l (tables.ppn * 4096)) (done (faults f))) (pick b (down t' l (tables.ppn * 4096)) (done (faults f')))
+        go : (b : Bool) → Follows (pick b (down t l (tables.ppn * 4096)) (done (Err f))) (pick b (down t' l (tables.ppn * 4096)) (done (Err f')))
         go true = follows_down l (tables.ppn * 4096)
         go false = faulted f _
 
@@ -143,7 +142,7 @@ module _ (user sum mxr : Bool) where
 abbrev pub made_as : Kind → Right → Access → Access
 made_as kind right a = record { kind = kind; right = right; address = a.address; width = a.width; v = a.v; user = a.user; sum = a.sum; mxr = a.mxr; mmxr = a.mmxr; first = a.first; second = a.second }
 
-module _ (look : Machine → Entry) (base len : ℕ) (a : Access) where
+module _ (look : Machine → Option ℕ) (base len : ℕ) (a : Access) where
   abbrev store : Access
   store = made_as Store Write a
 
@@ -157,7 +156,7 @@ module _ (look : Machine → Entry) (base len : ℕ) (a : Access) where
       (follows_stage second a.second g.0 machine (second_need store) (second_need load) (guest_page_fault store g) (guest_page_fault load g) (access_fault store) (access_fault load) _ _ (load_takes true false a.mmxr) (λ y. ends _))
       (λ m. go m (within base len m.0 a.width))
     where
-      go : (m : Machine) (b : Bool) → Follows (done (pick b (yields m) (faults (access_fault store)))) (done (pick b (yields m) (faults (access_fault load))))
+      go : (m : Machine) (b : Bool) → Follows (done (pick b (Ok m) (Err (access_fault store)))) (done (pick b (Ok m) (Err (access_fault load))))
       go m true = ends _
       go m false = faulted _ _
 
@@ -169,5 +168,5 @@ module _ (look : Machine → Entry) (base len : ℕ) (a : Access) where
       (λ y. follows_stage second a.second y machine entry_need entry_need (entry_fault store (guest y)) (entry_fault load (guest y)) (access_fault store) (access_fault load) _ _ (λ level address e. inr refl) (λ z. ends _)))
       follows_final
 
-  pub loads_where_stores : (m : Machine) → (run look (walk_of base len store)).end ≡ yields m → run look (walk_of base len load) ≡ run look (walk_of base len store)
+  pub loads_where_stores : (m : Machine) → (run look (walk_of base len store)).end ≡ Ok m → run look (walk_of base len load) ≡ run look (walk_of base len store)
   loads_where_stores m e = follows_run look follows_walk m e

@@ -1,4 +1,5 @@
 -- What the second stage let through stands in the list: demand 3. Assumes nothing.
+use Rattle.std.specs.Prelude.{Option, Some, None, Result, Ok, Err}
 use mathlib.Core.Path.{◌≡◌, refl, sym, ap, subst, ◌∙◌}
 use mathlib.Core.Bool.{Bool, true, false}
 use mathlib.Core.List.{List, [], ◌∷◌, ◌++◌, append-nil, append_assoc}
@@ -8,8 +9,6 @@ use native.Mathlib.Omega.{arith}
 use lib.Dec.{eqb}
 use borrow.Author.Tests.{eqb-true, eqb-false}
 use Rattle.bits.specs.Field.{pick}
-use Rattle.image.specs.declared.Entry.{Entry}
-use Rattle.image.specs.declared.Entry.TheVariants.{Value, Outside}
 use Rattle.image.specs.Image.{within}
 use Rattle.exceptions.specs.declared.Exception.{Exception}
 use Rattle.rules.specs.declared.Need.{Need}
@@ -26,7 +25,7 @@ use Rattle.access.specs.Faults.{access_fault, page_fault, entry_fault, guest_pag
 use Rattle.access.proofs.Faults.{not-high, access-low, page-low}
 use Rattle.stages.specs.declared.Read.{Read}
 use Rattle.stages.specs.Tree.{Walk, done, ask, bind, item, Ran, listed, found, run}
-use Rattle.stages.specs.Stages.{Result, yields, faults, onward, ◌then◌, Translation, slot, follow, inspect, down, begin, translation, guest, machine, second_of, first_of, last, final, walk_of}
+use Rattle.stages.specs.Stages.{onward, ◌then◌, Translation, slot, follow, inspect, down, begin, translation, guest, machine, second_of, first_of, last, final, walk_of}
 use Rattle.stages.specs.Through.{Only, Points, own_right, entry_right, second_item, Descent, at_leaf, by_pointer, LetThrough, Leads, stays, falls, GuestEntry, Yields, FirstResult, bare, walked, AnsweredThrough}
 use Rattle.stages.specs.Denied.{at_entry, at_access, GuestPageFault}
 use Rattle.stages.proofs.Trees.{begin-off, begin-at}
@@ -37,7 +36,7 @@ use Rattle.stages.proofs.Raised.{second-fault, final-fault}
 
 -- ---- a second stage that yields an address has let it through
 
-module _ (look : Machine → Entry) (a : Access) (n : Need) (f : Exception) (g : Guest) where
+module _ (look : Machine → Option ℕ) (a : Access) (n : Need) (f : Exception) (g : Guest) where
   abbrev t : Translation Machine
   t = second_of a n f g
 
@@ -55,17 +54,17 @@ module _ (look : Machine → Entry) (a : Access) (n : Need) (f : Exception) (g :
   deeper zero table e xs m p u = absurd u
   deeper (suc l) table e xs m p u = record { leaf = u.leaf; items = by_pointer l table e xs u.leaf p u.items; yielded = u.yielded }
 
-  visited : (level table : ℕ) (m : Machine) (next : ℕ → Walk (Result Machine))
-      → ((x : ℕ) → (run look (next x)).end ≡ yields m → Under level x (run look (next x)).reads m)
-      → (run look (inspect t level next (machine (slot t level table)))).end ≡ yields m
+  visited : (level table : ℕ) (m : Machine) (next : ℕ → Walk (Result Machine Exception))
+      → ((x : ℕ) → (run look (next x)).end ≡ Ok m → Under level x (run look (next x)).reads m)
+      → (run look (inspect t level next (machine (slot t level table)))).end ≡ Ok m
       → Found level table (run look (inspect t level next (machine (slot t level table)))).reads m
   unfolding run inspect follow
   visited level table m next sub h = go (look (machine (slot t level table))) h
     where
-      after : ℕ → Judgement → Ran (Result Machine)
+      after : ℕ → Judgement → Ran (Result Machine Exception)
       after e d = listed (second_item a.second g.0 level table e) (run look (follow t d next))
 
-      judge : (e : ℕ) (d : Judgement) → judged n level g.0 e ≡ d → (after e d).end ≡ yields m → Found level table (after e d).reads m
+      judge : (e : ℕ) (d : Judgement) → judged n level g.0 e ≡ d → (after e d).end ≡ Ok m → Found level table (after e d).reads m
       judge e Bad j q = never f m q
       judge e (Leaf x) j q =
           record { leaf = second_item a.second g.0 level table e; items = at_leaf level table e (is_leaf n level g.0 e x j).leaf; yielded = cc }
@@ -73,14 +72,14 @@ module _ (look : Machine → Entry) (a : Access) (n : Need) (f : Exception) (g :
           let k = is_pointer n level g.0 e x j in
           deeper level table e (run look (next x)).reads m (points n level e k.good k.pointer) (subst (λ (y : ℕ). Under level y (run look (next x)).reads m) k.to (sub x q))
 
-      go : (e : Entry) → (found e (run look (done (faults t.outside))) (λ v. after v (judged n level g.0 v))).end ≡ yields m
-          → Found level table (found e (run look (done (faults t.outside))) (λ v. after v (judged n level g.0 v))).reads m
-      go Outside q = never t.outside m q
-      go (Value v) q = judge v (judged n level g.0 v) refl q
+      go : (e : Option ℕ) → (found e (run look (done (Err t.outside))) (λ v. after v (judged n level g.0 v))).end ≡ Ok m
+          → Found level table (found e (run look (done (Err t.outside))) (λ v. after v (judged n level g.0 v))).reads m
+      go None q = never t.outside m q
+      go (Some v) q = judge v (judged n level g.0 v) refl q
 
-  descended : (level table : ℕ) (m : Machine) → (run look (down t level table)).end ≡ yields m → Found level table (run look (down t level table)).reads m
+  descended : (level table : ℕ) (m : Machine) → (run look (down t level table)).end ≡ Ok m → Found level table (run look (down t level table)).reads m
   unfolding run down bind
-  descended zero table m h = visited zero table m (λ x. done (faults f)) (λ x q. never f m q) h
+  descended zero table m h = visited zero table m (λ x. done (Err f)) (λ x q. never f m q) h
   descended (suc l) table m h = visited (suc l) table m (down t l) (λ x q. descended l x m q) h
 
   -- what is needed is a user's, and a right in plain bits
@@ -100,16 +99,16 @@ module _ (look : Machine → Entry) (a : Access) (n : Need) (f : Exception) (g :
         }
 
     -- the second stage, on, has let through what it yields
-    pub let_through : 0 < a.second.levels → (k : ℕ) → k ≤ 12 → g.0 % 2 ^ k ≡ 0 → (m : Machine) → (run look (translation (second_of a n f g))).end ≡ yields m
+    pub let_through : 0 < a.second.levels → (k : ℕ) → k ≤ 12 → g.0 % 2 ^ k ≡ 0 → (m : Machine) → (run look (translation (second_of a n f g))).end ≡ Ok m
         → LetThrough a.second right g (run look (translation (second_of a n f g))).reads m (2 ^ k)
     unfolding run
     let_through p k small aligned m h =
         rw (begin-at t a.second.levels p) (go (well_formed second a.second.levels g.0) (rw (begin-at t a.second.levels p) at h))
       where
-        root : Walk (Result Machine)
+        root : Walk (Result Machine Exception)
         root = down t (a.second.levels - 1) (a.second.ppn * 4096)
 
-        go : (b : Bool) → (run look (pick b root (done (faults f)))).end ≡ yields m → LetThrough a.second right g (run look (pick b root (done (faults f)))).reads m (2 ^ k)
+        go : (b : Bool) → (run look (pick b root (done (Err f)))).end ≡ Ok m → LetThrough a.second right g (run look (pick b root (done (Err f)))).reads m (2 ^ k)
         go true q = from_found k small aligned m (run look root).reads (descended (a.second.levels - 1) (a.second.ppn * 4096) m q)
         go false q = never f m q
 
@@ -120,15 +119,15 @@ abbrev Asks : {A : Type 0} → Stage → Walk A → Type 0
 Asks s (done a) = Unit {0}
 Asks s (ask s' l m outside k) = (s' ≡ number s) × Asks s outside × ((v : ℕ) → Asks s (k v))
 
-asks_run : {A : Type 0} (look : Machine → Entry) (s : Stage) (w : Walk A) → Asks s w → Only s (run look w).reads
+asks_run : {A : Type 0} (look : Machine → Option ℕ) (s : Stage) (w : Walk A) → Asks s w → Only s (run look w).reads
 unfolding run
 asks_run look s (done a) h = tt
 asks_run {A} look s (ask s' l m outside k) h = go (look m) (asks_run look s outside h.1) (λ v. asks_run look s (k v) (h.2 v))
   where
-    go : (e : Entry) → Only s (run look outside).reads → ((v : ℕ) → Only s (run look (k v)).reads)
+    go : (e : Option ℕ) → Only s (run look outside).reads → ((v : ℕ) → Only s (run look (k v)).reads)
         → Only s (found e (run look outside) (λ v. listed (item s' l m v) (run look (k v)))).reads
-    go Outside io ik = io
-    go (Value v) io ik = (h.0, ik v)
+    go None io ik = io
+    go (Some v) io ik = (h.0, ik v)
 
 only_append : (s : Stage) (xs ys : List Read) → Only s xs → Only s ys → Only s (xs ++ ys)
 only_append s [] ys h k = k
@@ -138,7 +137,7 @@ module _ (a : Access) (n : Need) (f : Exception) (g : Guest) where
   abbrev u : Translation Machine
   u = second_of a n f g
 
-  asks_follow : (d : Judgement) (next : ℕ → Walk (Result Machine)) → ((x : ℕ) → Asks second (next x)) → Asks second (follow u d next)
+  asks_follow : (d : Judgement) (next : ℕ → Walk (Result Machine Exception)) → ((x : ℕ) → Asks second (next x)) → Asks second (follow u d next)
   unfolding follow
   asks_follow Bad next h = tt
   asks_follow (Leaf x) next h = tt
@@ -146,7 +145,7 @@ module _ (a : Access) (n : Need) (f : Exception) (g : Guest) where
 
   asks_down : (level table : ℕ) → Asks second (down u level table)
   unfolding down bind inspect
-  asks_down zero table = (refl, tt, λ e. asks_follow (judged n zero g.0 e) (λ x. done (faults f)) (λ x. tt))
+  asks_down zero table = (refl, tt, λ e. asks_follow (judged n zero g.0 e) (λ x. done (Err f)) (λ x. tt))
   asks_down (suc l) table = (refl, tt, λ e. asks_follow (judged n (suc l) g.0 e) (down u l) (asks_down l))
 
   asks_begin : (levels : ℕ) → Asks second (begin u levels)
@@ -154,11 +153,11 @@ module _ (a : Access) (n : Need) (f : Exception) (g : Guest) where
   asks_begin zero = tt
   asks_begin (suc l) = go (well_formed second (suc l) g.0)
     where
-      go : (b : Bool) → Asks second (pick b (down u l (a.second.ppn * 4096)) (done (faults f)))
+      go : (b : Bool) → Asks second (pick b (down u l (a.second.ppn * 4096)) (done (Err f)))
       go true = asks_down l (a.second.ppn * 4096)
       go false = tt
 
-  only_second : (look : Machine → Entry) → Only second (run look (translation (second_of a n f g))).reads
+  only_second : (look : Machine → Option ℕ) → Only second (run look (translation (second_of a n f g))).reads
   only_second look = asks_run look second (translation (second_of a n f g)) (asks_begin a.second.levels)
 
 -- ---- the first stage's part of the list
@@ -178,24 +177,24 @@ module _ (a : Access) where
   Plain f = (f ≡ access_fault a) ⊎ (f ≡ page_fault a)
 
   -- an end by the last entry
-  abbrev End : ℕ → ℕ → Result Guest → Type 0
-  End level e (faults f) = Plain f
-  End level e (yields g) = (pointer e ≡ false) × (g.0 ≡ target e + a.address % 2 ^ (12 + 9 * level))
+  abbrev End : ℕ → ℕ → Result Guest Exception → Type 0
+  End level e (Err f) = Plain f
+  End level e (Ok g) = (pointer e ≡ false) × (g.0 ≡ target e + a.address % 2 ^ (12 + 9 * level))
 
   -- from a level and a table on, with its end: no entry, one that ends it, or a pointer and what follows
-  data Part : ℕ → ℕ → List Read → Result Guest → Type 0 where
-    lost : {level table : ℕ} (ws : List Read) (f : Exception) → Only second ws → Plain f ⊎ (f ≡ entry_fault a (entry_at level table)) → Part level table ws (faults f)
-    ended : {level table : ℕ} (ws : List Read) (m : Machine) (e : ℕ) (o : Result Guest) → Before level table ws m → End level e o
+  data Part : ℕ → ℕ → List Read → Result Guest Exception → Type 0 where
+    lost : {level table : ℕ} (ws : List Read) (f : Exception) → Only second ws → Plain f ⊎ (f ≡ entry_fault a (entry_at level table)) → Part level table ws (Err f)
+    ended : {level table : ℕ} (ws : List Read) (m : Machine) (e : ℕ) (o : Result Guest Exception) → Before level table ws m → End level e o
         → Part level table (ws ++ (item 1 level m e ∷ [])) o
-    pointed : {level table : ℕ} (ws : List Read) (m : Machine) (e : ℕ) (xs : List Read) (o : Result Guest) → Before level table ws m → Points level e
+    pointed : {level table : ℕ} (ws : List Read) (m : Machine) (e : ℕ) (xs : List Read) (o : Result Guest Exception) → Before level table ws m → Points level e
         → Part (level - 1) (target e) xs o → Part level table (ws ++ (item 1 level m e ∷ xs)) o
 
-module _ (look : Machine → Entry) (a : Access) (on : 0 < a.second.levels) where
+module _ (look : Machine → Option ℕ) (a : Access) (on : 0 < a.second.levels) where
   -- what a run of the first stage comes to
-  abbrev PartOf : ℕ → ℕ → Ran (Result Guest) → Type 0
+  abbrev PartOf : ℕ → ℕ → Ran (Result Guest Exception) → Type 0
   PartOf level table r = Part a level table r.reads r.end
 
-  part_visit : (level table : ℕ) → table % 8 ≡ 0 → (next : ℕ → Walk (Result Guest)) → ((y : ℕ) → y % 8 ≡ 0 → PartOf (level - 1) y (run look (next y)))
+  part_visit : (level table : ℕ) → table % 8 ≡ 0 → (next : ℕ → Walk (Result Guest Exception)) → ((y : ℕ) → y % 8 ≡ 0 → PartOf (level - 1) y (run look (next y)))
       → PartOf level table (run look ((first_of a).through (slot (first_of a) level table) then inspect (first_of a) level next))
   unfolding run inspect follow
   part_visit level table aligned next sub = rw (run_bind look w (onward (inspect (first_of a) level next))) (go (run look w).end refl)
@@ -203,7 +202,7 @@ module _ (look : Machine → Entry) (a : Access) (on : 0 < a.second.levels) wher
       g : Guest
       g = entry_at a level table
 
-      w : Walk (Result Machine)
+      w : Walk (Result Machine Exception)
       w = translation (second_of a entry_need (entry_fault a g) g)
 
       ws : List Read
@@ -214,35 +213,35 @@ module _ (look : Machine → Entry) (a : Access) (on : 0 < a.second.levels) wher
 
       judge : (m : Machine) (e : ℕ) (d : Judgement) → judged (first_need a) level a.address e ≡ d → Before a level table ws m
           → Part a level table (ws ++ (item 1 level m e ∷ (run look (follow (first_of a) d next)).reads)) (run look (follow (first_of a) d next)).end
-      judge m e Bad j b = ended ws m e (faults (page_fault a)) b (inr refl)
-      judge m e (Leaf y) j b = let k = is_leaf (first_need a) level a.address e y j in ended ws m e (yields (guest y)) b (k.leaf, rw low_part at k.to)
+      judge m e Bad j b = ended ws m e (Err (page_fault a)) b (inr refl)
+      judge m e (Leaf y) j b = let k = is_leaf (first_need a) level a.address e y j in ended ws m e (Ok (guest y)) b (k.leaf, rw low_part at k.to)
       judge m e (Pointer y) j b =
           let k = is_pointer (first_need a) level a.address e y j in
           pointed ws m e (run look (next y)).reads (run look (next y)).end b (points (first_need a) level e k.good k.pointer) (rw (← k.to) (sub y (omega (arith, k.to))))
 
-      entry : (m : Machine) → LetThrough a.second entry_right g ws m 8 → (e : Entry)
-          → let r = found e (run look (done (faults (first_of a).outside))) (λ v. listed (item 1 level m v) (run look (follow (first_of a) (judged (first_need a) level a.address v) next))) in
+      entry : (m : Machine) → LetThrough a.second entry_right g ws m 8 → (e : Option ℕ)
+          → let r = found e (run look (done (Err (first_of a).outside))) (λ v. listed (item 1 level m v) (run look (follow (first_of a) (judged (first_need a) level a.address v) next))) in
           Part a level table (ws ++ r.reads) r.end
-      entry m l Outside = rw append-nil (lost ws (access_fault a) second_only (inl (inl refl)))
-      entry m l (Value v) = judge m v (judged (first_need a) level a.address v) refl (record { only = second_only; through = l })
+      entry m l None = rw append-nil (lost ws (access_fault a) second_only (inl (inl refl)))
+      entry m l (Some v) = judge m v (judged (first_need a) level a.address v) refl (record { only = second_only; through = l })
 
-      go : (o : Result Machine) → (run look w).end ≡ o
+      go : (o : Result Machine Exception) → (run look w).end ≡ o
           → let r = run look (onward (inspect (first_of a) level next) o) in
           Part a level table (ws ++ r.reads) r.end
-      go (faults f) e =
+      go (Err f) e =
           rw append-nil (lost ws f second_only (second-fault (λ x. Plain a x ⊎ (x ≡ entry_fault a g)) a (inl (inl refl)) entry_need (entry_fault a g) g (λ p. inr refl) look f e))
-      go (yields m) e = entry m (let_through look a entry_need (entry_fault a g) g refl entry_right entry-right on 3 (omega arith) (omega arith) m e) (look m)
+      go (Ok m) e = entry m (let_through look a entry_need (entry_fault a g) g refl entry_right entry-right on 3 (omega arith) (omega arith) m e) (look m)
 
   part_down : (level table : ℕ) → table % 8 ≡ 0 → PartOf level table (run look (down (first_of a) level table))
   unfolding down run
-  part_down zero table aligned = part_visit zero table aligned (λ x. done (faults (first_of a).fault)) (λ x e. lost [] (first_of a).fault tt (inl (inr refl)))
+  part_down zero table aligned = part_visit zero table aligned (λ x. done (Err (first_of a).fault)) (λ x e. lost [] (first_of a).fault tt (inl (inr refl)))
   part_down (suc l) table aligned = let e : suc l - 1 ≡ l = omega arith in part_visit (suc l) table aligned (down (first_of a) l) (λ y q. rw e (part_down l y q))
 
   part_begin : 0 < a.first.levels → PartOf (a.first.levels - 1) (a.first.ppn * 4096) (run look (translation (first_of a)))
   unfolding run
   part_begin p = rw (begin-at (first_of a) a.first.levels p) (go (well_formed first a.first.levels a.address))
     where
-      go : (b : Bool) → PartOf (a.first.levels - 1) (a.first.ppn * 4096) (run look (pick b (down (first_of a) (a.first.levels - 1) (a.first.ppn * 4096)) (done (faults (first_of a).fault))))
+      go : (b : Bool) → PartOf (a.first.levels - 1) (a.first.ppn * 4096) (run look (pick b (down (first_of a) (a.first.levels - 1) (a.first.ppn * 4096)) (done (Err (first_of a).fault))))
       go true = part_down (a.first.levels - 1) (a.first.ppn * 4096) (omega arith)
       go false = lost [] (first_of a).fault tt (inl (inr refl))
 
@@ -301,7 +300,7 @@ module _ (a : Access) where
     only_second_stage : {P : Type 0} (xs earlier : List Read) → Only second xs → xs ≡ earlier ++ (x ∷ later) → P
     only_second_stage xs earlier h e = not_both x.stage (in_only second earlier x later (rw e at h)) one
 
-    by_place : {level table : ℕ} {xs : List Read} {o : Result Guest} → Part a level table xs o → (earlier : List Read) → xs ++ zs ≡ earlier ++ (x ∷ later) → EntryFrom level table earlier x
+    by_place : {level table : ℕ} {xs : List Read} {o : Result Guest Exception} → Part a level table xs o → (earlier : List Read) → xs ++ zs ≡ earlier ++ (x ∷ later) → EntryFrom level table earlier x
     by_place (lost ws f h w) earlier e = only_second_stage (ws ++ zs) earlier (only_append second ws zs h rest) e
     by_place (ended ws m v o b h) earlier e = here_or_later ws m v [] earlier b (λ es q. only_second_stage zs es rest q) e
     by_place (pointed ws m v xs o b p r) earlier e = here_or_later ws m v xs earlier b (λ es q. later_entry ws m v es x b.only p (by_place r es q)) e
@@ -323,13 +322,13 @@ module _ (a : Access) where
         yielded = k.yielded;
       }
 
-  leaf_yield : {level table : ℕ} (ws : List Read) (m : Machine) (e : ℕ) (o : Result Guest) (g : Guest) → Only second ws → End a level e o → o ≡ yields g → Yields a.address level table (ws ++ (item 1 level m e ∷ [])) g
-  leaf_yield ws m e (faults f) g only h q = never f g q
-  leaf_yield {level} {table} ws m e (yields x) g only h q =
+  leaf_yield : {level table : ℕ} (ws : List Read) (m : Machine) (e : ℕ) (o : Result Guest Exception) (g : Guest) → Only second ws → End a level e o → o ≡ Ok g → Yields a.address level table (ws ++ (item 1 level m e ∷ [])) g
+  leaf_yield ws m e (Err f) g only h q = never f g q
+  leaf_yield {level} {table} ws m e (Ok x) g only h q =
       let same : x ≡ g = cc in
       record { earlier = ws; leaf = item 1 level m e; t = table; split = refl; way = stays ws only; stage = refl; ends = h.0; yielded = rw (← same) h.1 }
 
-  part_yields : {level table : ℕ} {xs : List Read} {o : Result Guest} → Part a level table xs o → (g : Guest) → o ≡ yields g → Yields a.address level table xs g
+  part_yields : {level table : ℕ} {xs : List Read} {o : Result Guest Exception} → Part a level table xs o → (g : Guest) → o ≡ Ok g → Yields a.address level table xs g
   part_yields (lost ws f h w) g q = never f g q
   part_yields (ended ws m e o b h) g q = leaf_yield ws m e o g b.only h q
   part_yields (pointed ws m e xs o b p r) g q = later_yield ws m e xs g b.only p (part_yields r g q)
@@ -343,30 +342,30 @@ module _ (a : Access) where
     way : Leads level table xs at t
     same : f ≡ entry_fault a (entry_at a at t)
 
-  part_faults : {level table : ℕ} {xs : List Read} {o : Result Guest} → Part a level table xs o → (f : Exception) → o ≡ faults f → Plain a f ⊎ Toward level table xs f
+  part_faults : {level table : ℕ} {xs : List Read} {o : Result Guest Exception} → Part a level table xs o → (f : Exception) → o ≡ Err f → Plain a f ⊎ Toward level table xs f
   part_faults {level} {table} (lost ws x h w) f q =
       let k : x ≡ f = cc in subst (λ (y : Exception). Plain a y ⊎ Toward level table ws y) k (⊎_elim inl (λ e. inr (record { at = level; t = table; way = stays ws h; same = e })) w)
-  part_faults (ended ws m e (yields g) b h) f q = never f g (sym q)
-  part_faults (ended ws m e (faults x) b h) f q = let k : x ≡ f = cc in inl (subst (Plain a) k h)
+  part_faults (ended ws m e (Ok g) b h) f q = never f g (sym q)
+  part_faults (ended ws m e (Err x) b h) f q = let k : x ≡ f = cc in inl (subst (Plain a) k h)
   part_faults {level} (pointed ws m e xs o b p r) f q =
       ⊎_elim inl (λ k. inr (record { at = k.at; t = k.t; way = falls ws (item 1 level m e) xs b.only refl p k.way; same = k.same })) (part_faults r f q)
 
 -- ---- demand 3 of the walk: an access of 2 ^ k bytes, aligned, with the second stage on
 
-module _ (look : Machine → Entry) (base len : ℕ) (a : Access) (on : 0 < a.second.levels) (k : ℕ) (small : k ≤ 12) (aligned : a.address % 2 ^ k ≡ 0) where
+module _ (look : Machine → Option ℕ) (base len : ℕ) (a : Access) (on : 0 < a.second.levels) (k : ℕ) (small : k ≤ 12) (aligned : a.address % 2 ^ k ≡ 0) where
   abbrev own : ℕ → Bool
   own = own_right a.right a.mmxr
 
   -- the access itself: only second-stage items, and an answer was let through
-  record Final (g : Guest) (xs : List Read) (o : Result Machine) : Type 0 where
+  record Final (g : Guest) (xs : List Read) (o : Result Machine Exception) : Type 0 where
     only : Only second xs
-    through : (m : Machine) → o ≡ yields m → LetThrough a.second own g xs m (2 ^ k)
+    through : (m : Machine) → o ≡ Ok m → LetThrough a.second own g xs m (2 ^ k)
 
   final-through : (g : Guest) → g.0 % 2 ^ k ≡ 0 → Final g (run look (final base len a g)).reads (run look (final base len a g)).end
   unfolding final run last
   final-through g even = rw (run_bind look w (onward (λ m. done (last base len a m)))) (go (run look w).end refl)
     where
-      w : Walk (Result Machine)
+      w : Walk (Result Machine Exception)
       w = translation (second_of a (second_need a) (guest_page_fault a g) g)
 
       ws : List Read
@@ -375,29 +374,29 @@ module _ (look : Machine → Entry) (base len : ℕ) (a : Access) (on : 0 < a.se
       second_only : Only second ws
       second_only = only_second a (second_need a) (guest_page_fault a g) g look
 
-      conclude : (m : Machine) → LetThrough a.second own g ws m (2 ^ k) → (b : Bool) → Final g (ws ++ []) (pick b (yields m) (faults (access_fault a)))
+      conclude : (m : Machine) → LetThrough a.second own g ws m (2 ^ k) → (b : Bool) → Final g (ws ++ []) (pick b (Ok m) (Err (access_fault a)))
       conclude m l true = rw append-nil (record { only = second_only; through = λ m' e. let q : m ≡ m' = cc in rw (← q) l })
       conclude m l false = rw append-nil (record { only = second_only; through = λ m' e. never (access_fault a) m' e })
 
-      go : (o : Result Machine) → (run look w).end ≡ o → Final g (ws ++ (run look (onward (λ m. done (last base len a m)) o)).reads) (run look (onward (λ m. done (last base len a m)) o)).end
-      go (faults f) e = rw append-nil (record { only = second_only; through = λ m e. never f m e })
-      go (yields m) e = conclude m (let_through look a (second_need a) (guest_page_fault a g) g refl own (own_right_lem a) on k small even m e) (within base len m.0 a.width)
+      go : (o : Result Machine Exception) → (run look w).end ≡ o → Final g (ws ++ (run look (onward (λ m. done (last base len a m)) o)).reads) (run look (onward (λ m. done (last base len a m)) o)).end
+      go (Err f) e = rw append-nil (record { only = second_only; through = λ m e. never f m e })
+      go (Ok m) e = conclude m (let_through look a (second_need a) (guest_page_fault a g) g refl own (own_right_lem a) on k small even m e) (within base len m.0 a.width)
 
   -- The whole list and its end: each guest entry listed, with where the first stage has come to and what let it through; an address answered, with the
   -- first stage's result and what let it through.
-  pub record Guarded (xs : List Read) (o : Result Machine) : Type 0 where
+  pub record Guarded (xs : List Read) (o : Result Machine Exception) : Type 0 where
     pub entries : (earlier : List Read) (x : Read) (later : List Read) → x.stage ≡ 1 → xs ≡ earlier ++ (x ∷ later) → GuestEntry a.first a.second a.address (a.first.levels - 1) (a.first.ppn * 4096) earlier x
-    pub answer : (m : Machine) → o ≡ yields m → AnsweredThrough a.first a.second (own_right a.right a.mmxr) a.address xs m (2 ^ k)
+    pub answer : (m : Machine) → o ≡ Ok m → AnsweredThrough a.first a.second (own_right a.right a.mmxr) a.address xs m (2 ^ k)
 
-  abbrev first_walk : Walk (Result Guest)
+  abbrev first_walk : Walk (Result Guest Exception)
   first_walk = translation (first_of a)
 
   -- the first stage, on or off: its entries, followed by second-stage items, and its result
-  record First (r : Ran (Result Guest)) : Type 0 where
+  record First (r : Ran (Result Guest Exception)) : Type 0 where
     entries : (zs : List Read) → Only second zs → (earlier : List Read) (x : Read) (later : List Read) → x.stage ≡ 1 → r.reads ++ zs ≡ earlier ++ (x ∷ later)
         → EntryFrom a (a.first.levels - 1) (a.first.ppn * 4096) earlier x
-    result : (g : Guest) → r.end ≡ yields g → FirstResult a.first a.address r.reads g
-    fault : (f : Exception) → r.end ≡ faults f → Plain a f ⊎ ((0 < a.first.levels) × Toward a (a.first.levels - 1) (a.first.ppn * 4096) r.reads f)
+    result : (g : Guest) → r.end ≡ Ok g → FirstResult a.first a.address r.reads g
+    fault : (f : Exception) → r.end ≡ Err f → Plain a f ⊎ ((0 < a.first.levels) × Toward a (a.first.levels - 1) (a.first.ppn * 4096) r.reads f)
 
   first_off : a.first.levels ≡ 0 → First (run look first_walk)
   unfolding run
@@ -424,7 +423,7 @@ module _ (look : Machine → Entry) (base len : ℕ) (a : Access) (on : 0 < a.se
       go true e = first_off (eqb-true a.first.levels 0 e)
       go false e = first_on (omega (arith, eqb-false a.first.levels 0 e))
 
-  final_part : (g : Guest) → (run look first_walk).end ≡ yields g → Final g (run look (final base len a g)).reads (run look (final base len a g)).end
+  final_part : (g : Guest) → (run look first_walk).end ≡ Ok g → Final g (run look (final base len a g)).reads (run look (final base len a g)).end
   final_part g e = let kept = keeps_low look (first_of a) k small g e in final-through g (ap (λ (x : Guest). x.0 % 2 ^ k) kept.same ∙ kept.low ∙ aligned)
 
   pub guarded : Guarded (run look (walk_of base len a)).reads (run look (walk_of base len a)).end
@@ -434,9 +433,9 @@ module _ (look : Machine → Entry) (base len : ℕ) (a : Access) (on : 0 < a.se
       ws : List Read
       ws = (run look first_walk).reads
 
-      go : (o : Result Guest) → (run look first_walk).end ≡ o → Guarded (ws ++ (run look (onward (final base len a) o)).reads) (run look (onward (final base len a) o)).end
-      go (faults f) e = record { entries = first_part.entries [] tt; answer = λ m e. never f m e }
-      go (yields g) e =
+      go : (o : Result Guest Exception) → (run look first_walk).end ≡ o → Guarded (ws ++ (run look (onward (final base len a) o)).reads) (run look (onward (final base len a) o)).end
+      go (Err f) e = record { entries = first_part.entries [] tt; answer = λ m e. never f m e }
+      go (Ok g) e =
           let last = final_part g e in
           record {
             entries = first_part.entries (run look (final base len a g)).reads last.only;
@@ -449,7 +448,7 @@ module _ (look : Machine → Entry) (base len : ℕ) (a : Access) (on : 0 < a.se
 
 -- ---- where a guest-page fault was met: at the guest entry that the first stage had come to, or at the access itself
 
-module _ (look : Machine → Entry) (base len : ℕ) (a : Access) (on : 0 < a.second.levels) (f : Exception) where
+module _ (look : Machine → Option ℕ) (base len : ℕ) (a : Access) (on : 0 < a.second.levels) (f : Exception) where
   abbrev Told : List Read → Type 0
   Told xs = GuestPageFault a.first a.kind a.address a.v xs f
 
@@ -458,11 +457,11 @@ module _ (look : Machine → Entry) (base len : ℕ) (a : Access) (on : 0 < a.se
   other (inl e) = not-high (access_fault a) f e (access-low a)
   other (inr e) = not-high (page_fault a) f e (page-low a)
 
-  pub guest-page-fault : (run look (walk_of base len a)).end ≡ faults f → 20 ≤ f.cause → Told (run look (walk_of base len a)).reads
+  pub guest-page-fault : (run look (walk_of base len a)).end ≡ Err f → 20 ≤ f.cause → Told (run look (walk_of base len a)).reads
   unfolding walk_of run
   guest-page-fault = rw (run_bind look w (onward (final base len a))) (go (run look w).end refl)
     where
-      w : Walk (Result Guest)
+      w : Walk (Result Guest Exception)
       w = translation (first_of a)
 
       ws : List Read
@@ -476,12 +475,12 @@ module _ (look : Machine → Entry) (base len : ℕ) (a : Access) (on : 0 < a.se
       entry (inl p) c = other p c
       entry (inr (p, k)) c = rw k.same (record { guest = (entry_at a k.at k.t).0; denied = at_entry k.at k.t p k.way; cause = refl; value = refl; value2 = refl; flag = refl })
 
-      itself : (g : Guest) → (run look w).end ≡ yields g → (f ≡ access_fault a) ⊎ (f ≡ guest_page_fault a g) → 20 ≤ f.cause → Told (ws ++ (run look (final base len a g)).reads)
+      itself : (g : Guest) → (run look w).end ≡ Ok g → (f ≡ access_fault a) ⊎ (f ≡ guest_page_fault a g) → 20 ≤ f.cause → Told (ws ++ (run look (final base len a g)).reads)
       itself g e (inl p) c = other (inl p) c
       itself g e (inr p) c =
           let only = (final_part look base len a on 0 (omega arith) (omega arith) g e).only in
           rw p (record { guest = g.0; denied = at_access ws (run look (final base len a g)).reads g refl only (first-stage.result g e); cause = refl; value = refl; value2 = refl; flag = refl })
 
-      go : (o : Result Guest) → (run look w).end ≡ o → (run look (onward (final base len a) o)).end ≡ faults f → 20 ≤ f.cause → Told (ws ++ (run look (onward (final base len a) o)).reads)
-      go (faults x) e q = let k : x ≡ f = cc in rw append-nil (entry (first-stage.fault f (e ∙ ap faults k)))
-      go (yields g) e q = itself g e (final-fault (λ x. (x ≡ access_fault a) ⊎ (x ≡ guest_page_fault a g)) base len a (inl refl) g (λ p. inr refl) look f q)
+      go : (o : Result Guest Exception) → (run look w).end ≡ o → (run look (onward (final base len a) o)).end ≡ Err f → 20 ≤ f.cause → Told (ws ++ (run look (onward (final base len a) o)).reads)
+      go (Err x) e q = let k : x ≡ f = cc in rw append-nil (entry (first-stage.fault f (e ∙ ap Err k)))
+      go (Ok g) e q = itself g e (final-fault (λ x. (x ≡ access_fault a) ⊎ (x ≡ guest_page_fault a g)) base len a (inl refl) g (λ p. inr refl) look f q)

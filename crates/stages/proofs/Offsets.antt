@@ -1,4 +1,5 @@
 -- The low bits of an address: what a stage keeps, and what lies on a page. Assumes nothing.
+use Rattle.std.specs.Prelude.{Option, Some, None, Result, Ok, Err}
 use mathlib.Core.Path.{◌≡◌, refl, ap, ◌∙◌}
 use mathlib.Core.Bool.{Bool, true, false}
 use Prim.Native.Nat.{ℕ, zero, suc, ◌+◌, ◌-◌, ◌*◌, ◌/◌, ◌%◌, ◌^◌, ◌<◌, ◌≤◌}
@@ -8,8 +9,6 @@ use lib.Arith.{digits_lt, digits_mod}
 use lib.Pow.{pow_pos, pow-add, mod-pow-add}
 use Rattle.bits.specs.Field.{pick, get}
 use Rattle.bits.proofs.Bools.{clash}
-use Rattle.image.specs.declared.Entry.{Entry}
-use Rattle.image.specs.declared.Entry.TheVariants.{Value, Outside}
 use Rattle.exceptions.specs.declared.Exception.{Exception}
 use Rattle.rules.specs.declared.Judgement.{Judgement}
 use Rattle.rules.specs.declared.Judgement.TheVariants.{Pointer, Leaf, Bad}
@@ -18,10 +17,10 @@ use Rattle.rules.specs.Entry.{PPN, target, offset, judged}
 use Rattle.rules.proofs.Judgements.{is_leaf}
 use Rattle.access.specs.declared.Machine.{Machine}
 use Rattle.stages.specs.Tree.{Walk, done, item, listed, found, run}
-use Rattle.stages.specs.Stages.{Result, yields, faults, onward, ◌then◌, Translation, slot, follow, inspect, down, begin, translation}
+use Rattle.stages.specs.Stages.{onward, ◌then◌, Translation, slot, follow, inspect, down, begin, translation}
 use Rattle.stages.proofs.Runs.{run_bind}
 
-pub never : {A : Type 0} {P : Type 0} (f : Exception) (x : A) → ◌≡◌ {A = Result A} (faults f) (yields x) → P
+pub never : {A : Type 0} {P : Type 0} (f : Exception) (x : A) → ◌≡◌ {A = Result A Exception} (Err f) (Ok x) → P
 never f x e = clash (cc)
 
 pub low_part : (level x : ℕ) → get (offset level) x ≡ x % 2 ^ (12 + 9 * level)
@@ -58,40 +57,40 @@ pub record Kept {A : Type 0} (t : Translation A) (k : ℕ) (r : A) : Type 0 wher
   pub same : r ≡ t.wrap to
   pub low : to % 2 ^ k ≡ t.address % 2 ^ k
 
-module _ {A : Type 0} (look : Machine → Entry) (t : Translation A) (k : ℕ) (small : k ≤ 12) (r : A) where
-  visit : (level x : ℕ) (next : ℕ → Walk (Result A)) → ((y : ℕ) → (run look (next y)).end ≡ yields r → Kept t k r)
-      → (run look (t.through x then inspect t level next)).end ≡ yields r → Kept t k r
+module _ {A : Type 0} (look : Machine → Option ℕ) (t : Translation A) (k : ℕ) (small : k ≤ 12) (r : A) where
+  visit : (level x : ℕ) (next : ℕ → Walk (Result A Exception)) → ((y : ℕ) → (run look (next y)).end ≡ Ok r → Kept t k r)
+      → (run look (t.through x then inspect t level next)).end ≡ Ok r → Kept t k r
   unfolding run inspect follow
   visit level x next sub h = go (run look (t.through x)).end (rw (run_bind look (t.through x) (onward (inspect t level next))) at h)
     where
-      judge : (v : ℕ) (d : Judgement) → judged t.need level t.address v ≡ d → (run look (follow t d next)).end ≡ yields r → Kept t k r
+      judge : (v : ℕ) (d : Judgement) → judged t.need level t.address v ≡ d → (run look (follow t d next)).end ≡ Ok r → Kept t k r
       judge v Bad j q = never t.fault r q
       judge v (Leaf y) j q =
           record { to = y; same = cc; low = ap (λ (z : ℕ). z % 2 ^ k) (is_leaf t.need level t.address v y j).to ∙ low_bits level t.address k small v }
       judge v (Pointer y) j q = sub y q
 
-      entry : (m : Machine) (e : Entry)
-          → (found e (run look (done (faults t.outside))) (λ v. listed (item (number t.stage) level m v) (run look (follow t (judged t.need level t.address v) next)))).end ≡ yields r → Kept t k r
-      entry m Outside q = never t.outside r q
-      entry m (Value v) q = judge v (judged t.need level t.address v) refl q
+      entry : (m : Machine) (e : Option ℕ)
+          → (found e (run look (done (Err t.outside))) (λ v. listed (item (number t.stage) level m v) (run look (follow t (judged t.need level t.address v) next)))).end ≡ Ok r → Kept t k r
+      entry m None q = never t.outside r q
+      entry m (Some v) q = judge v (judged t.need level t.address v) refl q
 
-      go : (o : Result Machine) → (run look (onward (inspect t level next) o)).end ≡ yields r → Kept t k r
-      go (faults f) q = never f r q
-      go (yields m) q = entry m (look m) q
+      go : (o : Result Machine Exception) → (run look (onward (inspect t level next) o)).end ≡ Ok r → Kept t k r
+      go (Err f) q = never f r q
+      go (Ok m) q = entry m (look m) q
 
-  descend : (level table : ℕ) → (run look (down t level table)).end ≡ yields r → Kept t k r
+  descend : (level table : ℕ) → (run look (down t level table)).end ≡ Ok r → Kept t k r
   unfolding down run
-  descend zero table = visit zero (slot t zero table) (λ x. done (faults t.fault)) (λ x q. never t.fault r q)
+  descend zero table = visit zero (slot t zero table) (λ x. done (Err t.fault)) (λ x q. never t.fault r q)
   descend (suc l) table = visit (suc l) (slot t (suc l) table) (down t l) (descend l)
 
-  start : (levels : ℕ) → (run look (begin t levels)).end ≡ yields r → Kept t k r
+  start : (levels : ℕ) → (run look (begin t levels)).end ≡ Ok r → Kept t k r
   unfolding begin run
   start zero h = record { to = t.address; same = cc; low = refl }
   start (suc l) h = go (well_formed t.stage (suc l) t.address) h
     where
-      go : (b : Bool) → (run look (pick b (down t l (t.tables.ppn * 4096)) (done (faults t.fault)))).end ≡ yields r → Kept t k r
+      go : (b : Bool) → (run look (pick b (down t l (t.tables.ppn * 4096)) (done (Err t.fault)))).end ≡ Ok r → Kept t k r
       go true q = descend l (t.tables.ppn * 4096) q
       go false q = never t.fault r q
 
-  pub keeps_low : (run look (translation t)).end ≡ yields r → Kept t k r
+  pub keeps_low : (run look (translation t)).end ≡ Ok r → Kept t k r
   keeps_low = start t.tables.levels

@@ -1,12 +1,11 @@
 -- Every fault that a walk can end with satisfies what each stage's own faults do. Assumes nothing.
+use Rattle.std.specs.Prelude.{Option, Some, None, Result, Ok, Err}
 use mathlib.Core.Path.{◌≡◌, sym, subst}
 use mathlib.Core.Bool.{Bool, true, false}
 use Prim.Native.Nat.{ℕ, zero, suc, ◌*◌, ◌<◌}
 use native.Mathlib.Omega.{arith}
 use Rattle.bits.specs.Field.{pick}
 use Rattle.exceptions.specs.declared.Exception.{Exception}
-use Rattle.image.specs.declared.Entry.{Entry}
-use Rattle.image.specs.declared.Entry.TheVariants.{Value, Outside}
 use Rattle.image.specs.Image.{within}
 use Rattle.rules.specs.declared.Need.{Need}
 use Rattle.rules.specs.declared.Judgement.{Judgement}
@@ -19,35 +18,35 @@ use Rattle.access.specs.declared.Machine.{Machine}
 use Rattle.access.specs.Needs.{second_need, entry_need}
 use Rattle.access.specs.Faults.{access_fault, page_fault, guest_page_fault, entry_fault}
 use Rattle.stages.specs.Tree.{Walk, done, ask, bind, item, listed, found, run}
-use Rattle.stages.specs.Stages.{Result, yields, faults, ◌then◌, Translation, slot, follow, inspect, down, begin, translation, guest, second_of, first_of, last, final, walk_of}
+use Rattle.stages.specs.Stages.{◌then◌, Translation, slot, follow, inspect, down, begin, translation, guest, second_of, first_of, last, final, walk_of}
 use Rattle.stages.proofs.Offsets.{never}
 
 module _ (P : Exception → Type 0) where
   -- P holds of every fault that a walk can end with
-  abbrev Raises : {A : Type 0} → Walk (Result A) → Type 0
-  Raises (done (yields a)) = Unit {0}
-  Raises (done (faults f)) = P f
+  abbrev Raises : {A : Type 0} → Walk (Result A Exception) → Type 0
+  Raises (done (Ok a)) = Unit {0}
+  Raises (done (Err f)) = P f
   Raises (ask s l m outside k) = Raises outside × ((v : ℕ) → Raises (k v))
 
-  raises_then : {A B : Type 0} (w : Walk (Result A)) (f : A → Walk (Result B)) → Raises w → ((a : A) → Raises (f a)) → Raises (w then f)
+  raises_then : {A B : Type 0} (w : Walk (Result A Exception)) (f : A → Walk (Result B Exception)) → Raises w → ((a : A) → Raises (f a)) → Raises (w then f)
   unfolding bind
-  raises_then (done (yields a)) f h k = k a
-  raises_then (done (faults e)) f h k = h
+  raises_then (done (Ok a)) f h k = k a
+  raises_then (done (Err e)) f h k = h
   raises_then (ask s l m outside next) f h k = (raises_then outside f h.0 k, λ v. raises_then (next v) f (h.1 v) k)
 
-  raises-run : {A : Type 0} (look : Machine → Entry) (w : Walk (Result A)) → Raises w → (f : Exception) → (run look w).end ≡ faults f → P f
+  raises-run : {A : Type 0} (look : Machine → Option ℕ) (w : Walk (Result A Exception)) → Raises w → (f : Exception) → (run look w).end ≡ Err f → P f
   unfolding run
-  raises-run look (done (yields a)) h f e = never f a (sym e)
-  raises-run look (done (faults x)) h f e = let q : x ≡ f = cc in subst P q h
+  raises-run look (done (Ok a)) h f e = never f a (sym e)
+  raises-run look (done (Err x)) h f e = let q : x ≡ f = cc in subst P q h
   raises-run look (ask s l m outside next) h f e = go (look m) (raises-run look outside h.0 f) (λ v. raises-run look (next v) (h.1 v) f) e
     where
-      go : (x : Entry) → ((run look outside).end ≡ faults f → P f) → ((v : ℕ) → (run look (next v)).end ≡ faults f → P f)
-          → (found x (run look outside) (λ v. listed (item s l m v) (run look (next v)))).end ≡ faults f → P f
-      go Outside o k q = o q
-      go (Value v) o k q = k v q
+      go : (x : Option ℕ) → ((run look outside).end ≡ Err f → P f) → ((v : ℕ) → (run look (next v)).end ≡ Err f → P f)
+          → (found x (run look outside) (λ v. listed (item s l m v) (run look (next v)))).end ≡ Err f → P f
+      go None o k q = o q
+      go (Some v) o k q = k v q
 
   module _ {A : Type 0} (t : Translation A) (outside : P t.outside) (through : (x : ℕ) → Raises (t.through x)) where
-    raises_visit : P t.fault → (level : ℕ) (next : ℕ → Walk (Result A)) → ((x : ℕ) → Raises (next x)) → (m : Machine) → Raises (inspect t level next m)
+    raises_visit : P t.fault → (level : ℕ) (next : ℕ → Walk (Result A Exception)) → ((x : ℕ) → Raises (next x)) → (m : Machine) → Raises (inspect t level next m)
     unfolding inspect follow
     raises_visit fault level next h m = (outside, λ e. judge (judged t.need level t.address e))
       where
@@ -67,7 +66,7 @@ module _ (P : Exception → Type 0) where
     raises-begin zero fault = tt
     raises-begin (suc l) fault = go (well_formed t.stage (suc l) t.address) (fault (omega arith))
       where
-        go : (b : Bool) → P t.fault → Raises (pick b (down t l (t.tables.ppn * 4096)) (done (faults t.fault)))
+        go : (b : Bool) → P t.fault → Raises (pick b (down t l (t.tables.ppn * 4096)) (done (Err t.fault)))
         go true f = raises-down f l (t.tables.ppn * 4096)
         go false f = f
 
@@ -76,8 +75,8 @@ module _ (P : Exception → Type 0) where
     raises-second : (n : Need) (f : Exception) (g : Guest) → (0 < a.second.levels → P f) → Raises (translation (second_of a n f g))
     raises-second n f g h = raises-begin (second_of a n f g) access (λ x. tt) a.second.levels h
 
-    pub second-fault : (n : Need) (f : Exception) (g : Guest) → (0 < a.second.levels → P f) → (look : Machine → Entry) (x : Exception)
-        → (run look (translation (second_of a n f g))).end ≡ faults x → P x
+    pub second-fault : (n : Need) (f : Exception) (g : Guest) → (0 < a.second.levels → P f) → (look : Machine → Option ℕ) (x : Exception)
+        → (run look (translation (second_of a n f g))).end ≡ Err x → P x
     second-fault n f g h look = raises-run look (translation (second_of a n f g)) (raises-second n f g h)
 
   -- and of every fault of the access itself
@@ -86,16 +85,16 @@ module _ (P : Exception → Type 0) where
     unfolding final last
     raises-final g guest-page = raises_then (translation (second_of a (second_need a) (guest_page_fault a g) g)) _ (raises-second a access (second_need a) (guest_page_fault a g) g guest-page) (λ m. ends m (within base len m.0 a.width))
       where
-        ends : (m : Machine) (b : Bool) → Raises (done (pick b (yields m) (faults (access_fault a))))
+        ends : (m : Machine) (b : Bool) → Raises (done (pick b (Ok m) (Err (access_fault a))))
         ends m true = tt
         ends m false = access
 
-    pub final-fault : (g : Guest) → (0 < a.second.levels → P (guest_page_fault a g)) → (look : Machine → Entry) (x : Exception) → (run look (final base len a g)).end ≡ faults x → P x
+    pub final-fault : (g : Guest) → (0 < a.second.levels → P (guest_page_fault a g)) → (look : Machine → Option ℕ) (x : Exception) → (run look (final base len a g)).end ≡ Err x → P x
     final-fault g guest-page look = raises-run look (final base len a g) (raises-final g guest-page)
 
     -- what holds of the five faults holds of every fault of a walk
     module _ (page : P (page_fault a)) (guest-page : 0 < a.second.levels → (g : Guest) → P (guest_page_fault a g)) (entry : 0 < a.second.levels → (g : Guest) → P (entry_fault a g)) where
-      pub every-fault : (look : Machine → Entry) (f : Exception) → (run look (walk_of base len a)).end ≡ faults f → P f
+      pub every-fault : (look : Machine → Option ℕ) (f : Exception) → (run look (walk_of base len a)).end ≡ Err f → P f
       unfolding walk_of
       every-fault look =
           raises-run look (walk_of base len a)

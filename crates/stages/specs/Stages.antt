@@ -1,7 +1,6 @@
 -- The walk written out: one stage, the same for both, and the two in turn.
-use Rattle.std.specs.Prelude.{List, ℕ, zero, suc, ◌+◌, ◌*◌}
+use Rattle.std.specs.Prelude.{List, ℕ, zero, suc, ◌+◌, ◌*◌, Option, Result, Ok, Err}
 use Rattle.bits.specs.Field.{pick}
-use Rattle.image.specs.declared.Entry.{Entry}
 use Rattle.image.specs.Image.{within, entry}
 use Rattle.exceptions.specs.declared.Exception.{Exception}
 use Rattle.rules.specs.declared.Need.{Need}
@@ -25,21 +24,17 @@ abbrev pub machine : ℕ → Machine
 machine x = record { 0 = x }
 
 -- what an image has at a machine address
-abbrev pub look : ℕ → List ℕ → Machine → Entry
+abbrev pub look : ℕ → List ℕ → Machine → Option ℕ
 look base bytes m = entry base bytes m.0
 
--- what a stage, and the whole walk, ends with
-pub data Result (A : Type 0) : Type 0 where
-  yields : A → Result A
-  faults : Exception → Result A
-
-abbrev pub onward : {A B : Type 0} → (A → Walk (Result B)) → Result A → Walk (Result B)
-onward f (yields a) = f a
-onward f (faults x) = done (faults x)
+-- A stage, and the whole walk, ends with what it yields or with a fault. What follows one goes by what it yields.
+abbrev pub onward : {A B : Type 0} → (A → Walk (Result B Exception)) → Result A Exception → Walk (Result B Exception)
+onward f (Ok a) = f a
+onward f (Err x) = done (Err x)
 
 -- "Any fault, of either stage, ends the walk and is its answer."
 infixl 20 ◌then◌
-abbrev pub ◌then◌ : {A B : Type 0} → Walk (Result A) → (A → Walk (Result B)) → Walk (Result B)
+abbrev pub ◌then◌ : {A B : Type 0} → Walk (Result A Exception) → (A → Walk (Result B Exception)) → Walk (Result B Exception)
 w then f = bind w (onward f)
 
 -- A stage's translation of an address: what it needs of a leaf, what a fault rule raises and what an entry outside the image
@@ -51,7 +46,7 @@ pub record Translation (A : Type 0) : Type 0 where
   pub need : Need
   pub fault : Exception
   pub outside : Exception
-  pub through : ℕ → Walk (Result Machine)
+  pub through : ℕ → Walk (Result Machine Exception)
   pub wrap : ℕ → A
 
 -- "The entry is at the table plus 8 times the index."
@@ -60,28 +55,28 @@ slot t level table = table + 8 * index t.stage t.tables.levels level t.address
 
 -- After the fault rules: "a pointer: the level falls by one, and the table is at the entry's PPN .. times 4096"; "Any other is a
 -- leaf: the stage yields ..".
-unfoldable pub follow : {A : Type 0} → Translation A → Judgement → (ℕ → Walk (Result A)) → Walk (Result A)
-follow t Bad next = done (faults t.fault)
+unfoldable pub follow : {A : Type 0} → Translation A → Judgement → (ℕ → Walk (Result A Exception)) → Walk (Result A Exception)
+follow t Bad next = done (Err t.fault)
 follow t (Pointer table) next = next table
-follow t (Leaf x) next = done (yields (t.wrap x))
+follow t (Leaf x) next = done (Ok (t.wrap x))
 
 -- "An entry in the image is read, eight bytes, and listed; then the fault rules above are tried."
-unfoldable pub inspect : {A : Type 0} → Translation A → ℕ → (ℕ → Walk (Result A)) → Machine → Walk (Result A)
+unfoldable pub inspect : {A : Type 0} → Translation A → ℕ → (ℕ → Walk (Result A Exception)) → Machine → Walk (Result A Exception)
 inspect t level next m =
-    ask (number t.stage) level m (done (faults t.outside)) (λ e. follow t (judged t.need level t.address e) next)
+    ask (number t.stage) level m (done (Err t.outside)) (λ e. follow t (judged t.need level t.address e) next)
 
 -- from a level down, its table at an address; no pointer leads below level 0
-unfoldable pub down : {A : Type 0} → Translation A → ℕ → ℕ → Walk (Result A)
-down t zero table = t.through (slot t zero table) then inspect t zero (λ x. done (faults t.fault))
+unfoldable pub down : {A : Type 0} → Translation A → ℕ → ℕ → Walk (Result A Exception)
+down t zero table = t.through (slot t zero table) then inspect t zero (λ x. done (Err t.fault))
 down t (suc l) table = t.through (slot t (suc l) table) then inspect t (suc l) (down t l)
 
 -- "A stage that is on begins by testing its address's high bits. It starts at its top level, .. with the table at its
 -- register's PPN times 4096." With no levels it is off and passes the address on.
-unfoldable pub begin : {A : Type 0} → Translation A → ℕ → Walk (Result A)
-begin t zero = done (yields (t.wrap t.address))
-begin t (suc l) = pick (well_formed t.stage (suc l) t.address) (down t l (t.tables.ppn * 4096)) (done (faults t.fault))
+unfoldable pub begin : {A : Type 0} → Translation A → ℕ → Walk (Result A Exception)
+begin t zero = done (Ok (t.wrap t.address))
+begin t (suc l) = pick (well_formed t.stage (suc l) t.address) (down t l (t.tables.ppn * 4096)) (done (Err t.fault))
 
-abbrev pub translation : {A : Type 0} → Translation A → Walk (Result A)
+abbrev pub translation : {A : Type 0} → Translation A → Walk (Result A Exception)
 translation t = begin t t.tables.levels
 
 -- The second stage: its tables' own addresses are machine addresses. With V=0 it has no levels.
@@ -94,7 +89,7 @@ second_of a need fault g =
       need = need;
       fault = fault;
       outside = access_fault a;
-      through = λ x. done (yields (machine x));
+      through = λ x. done (Ok (machine x));
       wrap = machine;
     }
 
@@ -113,13 +108,13 @@ first_of a =
     }
 
 -- "The last address, if the whole access lies in the image, is the answer", "else 1, 5, 7".
-unfoldable pub last : ℕ → ℕ → Access → Machine → Result Machine
-last base len a m = pick (within base len m.0 a.width) (yields m) (faults (access_fault a))
+unfoldable pub last : ℕ → ℕ → Access → Machine → Result Machine Exception
+last base len a m = pick (within base len m.0 a.width) (Ok m) (Err (access_fault a))
 
 -- "the first stage's result, or the access's address if vsatp is Bare, goes through the second stage, if on, for the access itself"
-unfoldable pub final : ℕ → ℕ → Access → Guest → Walk (Result Machine)
+unfoldable pub final : ℕ → ℕ → Access → Guest → Walk (Result Machine Exception)
 final base len a g = translation (second_of a (second_need a) (guest_page_fault a g) g) then (λ m. done (last base len a m))
 
 -- The walk of an access over an image of a base and length.
-unfoldable pub walk_of : ℕ → ℕ → Access → Walk (Result Machine)
+unfoldable pub walk_of : ℕ → ℕ → Access → Walk (Result Machine Exception)
 walk_of base len a = translation (first_of a) then final base len a

@@ -1,8 +1,6 @@
 -- The words of demand 3: images and a list; a second-stage walk in the list, and what it let through; the first stage's way down.
-use Rattle.std.specs.Prelude.{◌≡◌, Bool, true, false, ◌&&◌, ◌||◌, not, List, [], ◌∷◌, ◌++◌, ℕ, suc, ◌+◌, ◌-◌, ◌*◌, ◌%◌, ◌^◌, ◌<◌, ◌≤◌}
+use Rattle.std.specs.Prelude.{◌≡◌, Bool, true, false, ◌&&◌, ◌||◌, not, List, [], ◌∷◌, ◌++◌, ℕ, suc, ◌+◌, ◌-◌, ◌*◌, ◌%◌, ◌^◌, ◌<◌, ◌≤◌, Option, Some}
 use Rattle.bits.specs.Field.{span, get, has}
-use Rattle.image.specs.declared.Entry.{Entry}
-use Rattle.image.specs.declared.Entry.TheVariants.{Value}
 use Rattle.rules.specs.declared.Right.{Right}
 use Rattle.rules.specs.Right.{by_right}
 use Rattle.rules.specs.Address.{Stage, first, second, number, index}
@@ -20,12 +18,12 @@ Each P [] = Unit {0}
 Each P (x ∷ xs) = P x × Each P xs
 
 -- two images agree on the entries of a list
-abbrev pub Agree : (Machine → Entry) → (Machine → Entry) → List Read → Type 0
+abbrev pub Agree : (Machine → Option ℕ) → (Machine → Option ℕ) → List Read → Type 0
 Agree f g = Each (λ x. g x.address ≡ f x.address)
 
 -- each item's value is what the image has at its address
-abbrev pub Shown : (Machine → Entry) → List Read → Type 0
-Shown look = Each (λ x. look x.address ≡ Value x.value)
+abbrev pub Shown : (Machine → Option ℕ) → List Read → Type 0
+Shown look = Each (λ x. look x.address ≡ Some x.value)
 
 -- each item is of a stage
 abbrev pub Only : Stage → List Read → Type 0

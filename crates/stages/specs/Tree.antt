@@ -1,7 +1,5 @@
 -- A walk as a tree of questions: it ends, or asks for the entry at a machine address and goes on by what it finds there.
-use Rattle.std.specs.Prelude.{List, [], ◌∷◌, ℕ}
-use Rattle.image.specs.declared.Entry.{Entry}
-use Rattle.image.specs.declared.Entry.TheVariants.{Value, Outside}
+use Rattle.std.specs.Prelude.{List, [], ◌∷◌, ℕ, Option, Some, None}
 use Rattle.access.specs.declared.Machine.{Machine}
 use Rattle.stages.specs.declared.Read.{Read}
 
@@ -27,11 +25,11 @@ pub record Ran (A : Type 0) : Type 0 where
 abbrev pub listed : {A : Type 0} → Read → Ran A → Ran A
 listed x r = record { end = r.end; reads = x ∷ r.reads }
 
-abbrev pub found : {B : Type 0} → Entry → B → (ℕ → B) → B
-found Outside outside f = outside
-found (Value v) outside f = f v
+abbrev pub found : {B : Type 0} → Option ℕ → B → (ℕ → B) → B
+found None outside f = outside
+found (Some v) outside f = f v
 
 -- A walk over what an image has at each address. "A read outside the image isn't listed."
-unfoldable pub run : {A : Type 0} → (Machine → Entry) → Walk A → Ran A
+unfoldable pub run : {A : Type 0} → (Machine → Option ℕ) → Walk A → Ran A
 run look (done a) = record { end = a; reads = [] }
 run look (ask s l m outside k) = found (look m) (run look outside) (λ v. listed (item s l m v) (run look (k v)))

@@ -1,4 +1,5 @@
 -- Where a walk begins and goes on, by what the code has found. Assumes nothing.
+use Rattle.std.specs.Prelude.{Err}
 use mathlib.Core.Path.{◌≡◌, refl}
 use mathlib.Core.Bool.{Bool, true, false}
 use Prim.Native.Nat.{ℕ, zero, suc, ◌+◌, ◌-◌, ◌*◌, ◌<◌}
@@ -9,7 +10,7 @@ use Rattle.rules.proofs.Indices.{below_root}
 use Rattle.access.specs.declared.Access.{Access}
 use Rattle.access.specs.declared.Guest.{Guest}
 use Rattle.access.specs.Faults.{page_fault}
-use Rattle.stages.specs.Stages.{faults, guest, machine, slot, first_of}
+use Rattle.stages.specs.Stages.{guest, machine, slot, first_of}
 use Rattle.second_stage.specs.Place.{need_at, fault_at}
 use Rattle.stepper.specs.Position.{position, need_for, fault_for, second_for, ended, before, passed, onto, enters, from}
 
@@ -38,7 +39,7 @@ module _ (base len : ℕ) (a : Access) where
     unfolding onto
     onto-off levels e = rw e
 
-    pub onto_bad : (levels : ℕ) → 0 < levels → well_formed Stage.second levels g.0 ≡ false → onto base len a levels first entry g ≡ ended base len a (faults (fault_for a entry g))
+    pub onto_bad : (levels : ℕ) → 0 < levels → well_formed Stage.second levels g.0 ≡ false → onto base len a levels first entry g ≡ ended base len a (Err (fault_for a entry g))
     unfolding onto
     onto_bad zero h w = absurd (omega arith)
     onto_bad (suc l) h w = rw w
@@ -54,7 +55,7 @@ module _ (base len : ℕ) (a : Access) where
   unfolding from
   from-off levels e = rw e
 
-  pub from_bad : (levels : ℕ) → 0 < levels → well_formed Stage.first levels a.address ≡ false → from base len a levels ≡ ended base len a (faults (page_fault a))
+  pub from_bad : (levels : ℕ) → 0 < levels → well_formed Stage.first levels a.address ≡ false → from base len a levels ≡ ended base len a (Err (page_fault a))
   unfolding from
   from_bad zero h w = absurd (omega arith)
   from_bad (suc l) h w = rw w

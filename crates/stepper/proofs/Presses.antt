@@ -1,12 +1,14 @@
 -- Which presses are taken, and what is known then. Assumes nothing.
+use Rattle.std.specs.Prelude.{Ok}
 use mathlib.Core.Path.{◌≡◌, refl}
 use mathlib.Core.Bool.{Bool, true, false, ◌||◌, not}
 use mathlib.Core.List.{[], ◌∷◌}
-use Prim.Native.Nat.{ℕ, zero, suc, ◌≤◌, ◌<◌}
+use Prim.Native.Nat.{ℕ, ◌≤◌, ◌<◌}
 use native.Mathlib.Omega.{arith}
 use lib.Dec.{eqb, ltb}
 use borrow.Author.Tests.{eqb-true, eqb-false, ltb-false, not-false}
-use Rattle.bits.proofs.Bools.{or_left, or_right}
+use Rattle.bits.proofs.Bools.{clash, or_left, or_right}
+use Rattle.exceptions.specs.declared.Refusal.{Refusal}
 use Rattle.image.specs.Image.{unfit}
 use Rattle.stages.specs.Listed.{places}
 use Rattle.second_stage.specs.Place.{Tables}
@@ -15,11 +17,9 @@ use Rattle.effective.proofs.Roots.{first_five, second_five}
 use Rattle.translate.specs.Translated.{first_refusal}
 use Rattle.stepper.specs.declared.State.TheVariants.{Going}
 use Rattle.stepper.specs.declared.Place.{Place}
-use Rattle.stepper.specs.declared.Pressed.{Pressed}
-use Rattle.stepper.specs.declared.Told.TheVariants as Told
 use Rattle.stepper.specs.declared.position.Position.{Position}
 use Rattle.stepper.specs.Position.{misplaced}
-use Rattle.stepper.specs.Press.{access_at, unfinished_badly, unfit_place, press_refusals, unpressed, unless_refused}
+use Rattle.stepper.specs.Press.{access_at, unfinished_badly, unfit_place, press_refusals}
 
 -- each stage's tables are of at most five levels, whatever the registers hold
 pub tables-at : (p : Place) → Tables (access_at p)
@@ -27,11 +27,6 @@ tables-at p =
     let f = first_five p.paging (effective p.context p.kind) in
     let s = second_five p.paging (effective p.context p.kind) in
     record { first = f.levels; second = s.levels; first_root = f.ppn; second_root = s.ppn }
-
--- a refusal's number is not 0
-pub is_refused : (n : ℕ) (p : Place) (next : Pressed) → (n ≡ 0 → ⊥) → unless_refused n p next ≡ unpressed p (Told.Refused n)
-is_refused zero p next h = absurd (h refl)
-is_refused (suc n) p next h = refl
 
 -- what is known of a press that is taken
 pub record Taken (p : Place) (base len : ℕ) : Type 0 where
@@ -64,10 +59,10 @@ module _ (p : Place) (base len : ℕ) where
             (omega (arith, least, n), or_right (eqb p.count places) (misplaced (access_at p) q) b);
       }
 
-  pub taken : first_refusal (press_refusals p base len) ≡ 0 → Taken p base len
+  pub taken : {x : Unit {0}} → first_refusal (press_refusals p base len) ≡ Ok x → Taken p base len
   taken = go (unfit base len) (unfit_place p base len) refl refl
     where
-      go : (b c : Bool) → unfit base len ≡ b → unfit_place p base len ≡ c → first_refusal ((b, 1) ∷ (c, 6) ∷ []) ≡ 0 → Taken p base len
-      go true c e f z = absurd (omega arith)
-      go false true e f z = absurd (omega arith)
+      go : (b c : Bool) → unfit base len ≡ b → unfit_place p base len ≡ c → {x : Unit {0}} → first_refusal ((b, Refusal.Image) ∷ (c, Refusal.Place) ∷ []) ≡ Ok x → Taken p base len
+      go true c e f z = clash (cc)
+      go false true e f z = clash (cc)
       go false false e f z = goes f e

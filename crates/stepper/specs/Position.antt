@@ -1,6 +1,6 @@
 -- Where a walk stands before an entry, and where that entry leads. "It holds the list so far and, for each stage, the address it translates, a table address
 -- and a level": of the second stage the guest address; in place of a table's address that of the entry there.
-use Rattle.std.specs.Prelude.{Bool, true, false, ◌&&◌, ◌||◌, not, ℕ, zero, suc, ◌-◌, ◌*◌, eqb, ltb}
+use Rattle.std.specs.Prelude.{Bool, true, false, ◌&&◌, ◌||◌, not, ℕ, zero, suc, ◌-◌, ◌*◌, eqb, ltb, Result, Err}
 use Rattle.bits.specs.Field.{pick}
 use Rattle.image.specs.Image.{within}
 use Rattle.exceptions.specs.declared.Exception.{Exception}
@@ -14,7 +14,7 @@ use Rattle.access.specs.declared.Guest.{Guest}
 use Rattle.access.specs.declared.Machine.{Machine}
 use Rattle.access.specs.Needs.{first_need, second_need, entry_need}
 use Rattle.access.specs.Faults.{access_fault, page_fault, guest_page_fault, entry_fault}
-use Rattle.stages.specs.Stages.{Result, faults, Translation, guest, machine, slot, second_of, first_of, last}
+use Rattle.stages.specs.Stages.{Translation, guest, machine, slot, second_of, first_of, last}
 use Rattle.translate.specs.Translated.{answer}
 use Rattle.stepper.specs.declared.State.{State}
 use Rattle.stepper.specs.declared.State.TheVariants.{Going, Ended}
@@ -47,13 +47,13 @@ misplaced a q =
 
 module _ (base len : ℕ) (a : Access) where
   -- "Any fault, of either stage, ends the walk and is its answer"; so does the last address
-  abbrev pub ended : Result Machine → State
+  abbrev pub ended : Result Machine Exception → State
   ended r = Ended (answer r)
 
   -- "An entry outside the image: access fault". It is not shown, and the walk "is finished with the last item (at the start if there is none)" (2026-07), so
   -- before it the walk has ended.
   unfoldable pub before : Position → State
-  before q = pick (within base len q.at.0 8) (Going q) (ended (faults (access_fault a)))
+  before q = pick (within base len q.at.0 8) (Going q) (ended (Err (access_fault a)))
 
   -- The second stage has yielded a machine address: a guest entry's, which is read next, or the last one.
   unfoldable pub passed : Position → State
@@ -65,14 +65,14 @@ module _ (base len : ℕ) (a : Access) where
   onto zero first entry g = passed (position 2 first 0 entry g (machine g.0))
   onto (suc l) first entry g =
       let t = second_for a entry g in
-      pick (well_formed Stage.second (suc l) g.0) (before (position 2 first l entry g (machine (slot t l (a.second.ppn * 4096))))) (ended (faults t.fault))
+      pick (well_formed Stage.second (suc l) g.0) (before (position 2 first l entry g (machine (slot t l (a.second.ppn * 4096))))) (ended (Err t.fault))
 
   abbrev pub enters : (first : ℕ) (entry : Bool) → Guest → State
   enters = onto a.second.levels
 
   -- After the fault rules at a second-stage entry: "a pointer: the level falls by one, and the table is at the entry's PPN"; "Any other is a leaf".
   unfoldable pub after_second : Position → Judgement → State
-  after_second q Bad = ended (faults (fault_for a q.entry q.guest))
+  after_second q Bad = ended (Err (fault_for a q.entry q.guest))
   after_second q (Pointer table) =
       let l = q.second - 1 in
       before (position 2 q.first l q.entry q.guest (machine (slot (second_for a q.entry q.guest) l table)))
@@ -80,7 +80,7 @@ module _ (base len : ℕ) (a : Access) where
 
   -- at a first-stage entry: "its address goes through" the second "before the read"; a leaf's address does "for the access itself"
   unfoldable pub after_first : Position → Judgement → State
-  after_first q Bad = ended (faults (page_fault a))
+  after_first q Bad = ended (Err (page_fault a))
   after_first q (Pointer table) = let l = q.first - 1 in enters l true (guest (slot (first_of a) l table))
   after_first q (Leaf x) = enters q.first false (guest x)
 
@@ -95,7 +95,7 @@ module _ (base len : ℕ) (a : Access) where
   from zero = enters 0 false (guest a.address)
   from (suc l) =
       let t = first_of a in
-      pick (well_formed Stage.first (suc l) a.address) (enters l true (guest (slot t l (a.first.ppn * 4096)))) (ended (faults t.fault))
+      pick (well_formed Stage.first (suc l) a.address) (enters l true (guest (slot t l (a.first.ppn * 4096)))) (ended (Err t.fault))
 
   abbrev pub begins : State
   begins = from a.first.levels

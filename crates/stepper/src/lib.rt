@@ -10,13 +10,13 @@ ghost use Rattle.stepper.specs.Press.{access_at, state_at, started, unfinished_b
 
 use access::Access;
 use effective::Paging;
+use exceptions::Refusal;
 use hart::state::Hart;
-use image::Entry;
 use position::Position;
 use privilege::Context;
 use rules::Kind;
 use stages::{PLACES, Read};
-use translate::{Answer, Start};
+use translate::Answer;
 
 pub mod position;
 
@@ -42,26 +42,19 @@ pub struct Place {
     pub count: usize,
 }
 
-// The entry that a press showed, if it showed one.
-#[derive(Clone, Copy)]
-pub enum Shown {
-    Item(Read),
-    Nothing,
-}
-
 // What a press answers: the walk goes on, it has ended, or the press is refused.
 #[derive(Clone, Copy)]
 pub enum Told {
     Going,
     Ended(Answer),
-    Refused(u64),
+    Refused(Refusal),
 }
 
-// The place after a press, with what was shown and answered.
+// The place after a press, with the entry that it showed, if it showed one, and what it answers.
 #[derive(Clone, Copy)]
 pub struct Pressed {
     pub place: Place,
-    pub shown: Shown,
+    pub shown: Option<Read>,
     pub told: Told,
 }
 
@@ -71,8 +64,8 @@ fn first(h: Hart, base: u64, len: u64, kind: Kind, address: u64, width: u64) -> 
 {
     let s = translate::starts(h, base, len, kind, address, width);
     match s {
-        Start::Answered(x) => State::Ended(x),
-        Start::Walks(a) => position::begin(base, len, a),
+        Err(x) => State::Ended(x),
+        Ok(a) => position::begin(base, len, a),
     }
 }
 
@@ -126,20 +119,20 @@ impl Place {
         effective::access(context, paging, kind, self.address, self.width)
     }
 
-    // The number of the refusal of a press on an image, 0 where it is taken.
-    fn refusal(self, base: u64, len: u64) -> u64
+    // Whether a press on an image is refused, and as what.
+    fn refusal(self, base: u64, len: u64) -> Result<(), Refusal>
         ensures { result ≡ first_refusal (press_refusals self base len) }
     {
         if image::refused(base, len) {
-            return 1;
+            return Err(Refusal::Image);
         }
         let state = self.state;
         let count = self.count;
         let bad = is_unfinished_badly(self.access(), count, state);
         if !(base == self.base) | !(len == self.length) | (PLACES < count) | bad {
-            return 6;
+            return Err(Refusal::Place);
         }
-        0
+        Ok(())
     }
 
     // The place with another state and list.
@@ -172,12 +165,11 @@ impl Place {
         let mut reads = self.reads;
         let count = self.count;
         let at = q.at;
-        let entry = image::fetch(self.base, bytes, at.0);
-        let Entry::Value(e) = entry else {
+        let Some(e) = image::fetch(self.base, bytes, at.0) else {
             let end = Answer::Fault(a.access_fault());
             return Pressed {
                 place: self.moved(State::Ended(end), reads, count),
-                shown: Shown::Nothing,
+                shown: None,
                 told: Told::Ended(end),
             };
         };
@@ -191,7 +183,7 @@ impl Place {
         let state = q.after(self.base, self.length, a, e);
         Pressed {
             place: self.moved(state, reads, count + 1),
-            shown: Shown::Item(item),
+            shown: Some(item),
             told: tell(state),
         }
     }
@@ -200,19 +192,18 @@ impl Place {
     pub fn press(self, base: u64, bytes: &[u8]) -> Pressed
         ensures { result ≡ pressed self base bytes.now }
     {
-        let number = self.refusal(base, bytes.len() as u64);
-        if number != 0 {
+        if let Err(refusal) = self.refusal(base, bytes.len() as u64) {
             return Pressed {
                 place: self,
-                shown: Shown::Nothing,
-                told: Told::Refused(number),
+                shown: None,
+                told: Told::Refused(refusal),
             };
         }
         let state = self.state;
         match state {
             State::Ended(x) => Pressed {
                 place: self,
-                shown: Shown::Nothing,
+                shown: None,
                 told: Told::Ended(x),
             },
             State::Going(q) => self.turn(bytes, q),

@@ -121,8 +121,7 @@ impl Position {
     {
         let at = self.at;
         if !self.entry {
-            let reached = engine::conclude(base, len, a, at);
-            return State::Ended(translate::answered(reached));
+            return State::Ended(Answer::from(engine::conclude(base, len, a, at)));
         }
         let mut q = self;
         q.stage = 1;

@@ -10,7 +10,7 @@ use lib.ListN.{length, set, length-set, replicate}
 use lib.Seq.{sets}
 use borrow.Author.Tests.{ltb-true, ltb-false}
 use Rattle.table.specs.declared.Row.{Row}
-use Rattle.table.specs.declared.Found.TheVariants.{At, Nothing}
+use Rattle.std.specs.Prelude.{Some, None}
 use Rattle.table.specs.declared.Searched.{Searched}
 use Rattle.table.specs.Search.{looks, row_at, Looked, after, halving, told_from}
 use Rattle.table.proofs.Halving.{middle, ended, here, above, below, covers, above_covered, below_covered}
@@ -34,10 +34,10 @@ module _ (t : List Row) (n : ℕ) (whole : Searched) (places : List ℕ) (looked
           omega arith
 
   -- all of them are settled
-  pub over : high ≤ low → record { found = Nothing; places = places; count = looked } ≡ whole
+  pub over : high ≤ low → record { found = None; places = places; count = looked } ≡ whole
   over h =
       let none_more : looked ≡ looked + 0 = omega arith in
-      ap (λ (k : ℕ). record { found = Nothing; places = places; count = k }) none_more
+      ap (λ (k : ℕ). record { found = None; places = places; count = k }) none_more
       ∙ ap (told_from places looked) (sym (ended (looks - looked) t n low high h))
       ∙ g.told
 
@@ -68,12 +68,12 @@ module _ (t : List Row) (n : ℕ) (whole : Searched) (places : List ℕ) (looked
 
   -- the row looked at bears n; its number is lower; it is not
   module _ (h : low < high) (row : Row) (e : row_at t (middle low high) ≡ row) where
-    pub hit : row.number ≡ n → record { found = At (middle low high) row; places = set places looked (middle low high); count = looked + 1 } ≡ whole
+    pub hit : row.number ≡ n → record { found = Some (middle low high, row); places = set places looked (middle low high); count = looked + 1 } ≡ whole
     hit b =
         let none_more : looked + 1 ≡ looked + 1 + 0 = omega arith in
-        ap (λ (k : ℕ). record { found = At (middle low high) row; places = set places looked (middle low high); count = k }) none_more
-        ∙ turned h (At (middle low high) row, [])
-        (here (looks - (looked + 1)) t n low high h (ap (λ (r : Row). r.number) e ∙ b) ∙ ap (λ (r : Row). (At (middle low high) r, middle low high ∷ [])) e)
+        ap (λ (k : ℕ). record { found = Some (middle low high, row); places = set places looked (middle low high); count = k }) none_more
+        ∙ turned h (Some (middle low high, row), [])
+        (here (looks - (looked + 1)) t n low high h (ap (λ (r : Row). r.number) e ∙ b) ∙ ap (λ (r : Row). (Some (middle low high, r), middle low high ∷ [])) e)
 
     pub on-above : row.number < n → Going t n whole (set places looked (middle low high)) (looked + 1) (middle low high + 1) high
     on-above b =

@@ -11,7 +11,7 @@ use borrow.Author.Tests.{ltb-true, ltb-false, lt-ltb, le-ltb, eqb-true, eqb-fals
 use Rattle.bits.specs.Field.{pick}
 use Rattle.bits.proofs.Bools.{clash}
 use Rattle.table.specs.declared.Row.{Row}
-use Rattle.table.specs.declared.Found.TheVariants.{At, Nothing}
+use Rattle.std.specs.Prelude.{Some, None}
 use Rattle.table.specs.Search.{row_at, Looked, after, halving, Rising}
 
 -- the place that is looked at among those from low to before high
@@ -20,7 +20,7 @@ middle low high = (low + high) / 2
 
 -- ---- a turn
 
-pub no_look : (t : List Row) (n low high : ℕ) → halving zero t n low high ≡ (Nothing, [])
+pub no_look : (t : List Row) (n low high : ℕ) → halving zero t n low high ≡ (None, [])
 unfolding halving
 no_look t n low high = refl
 
@@ -28,15 +28,15 @@ module _ (left : ℕ) (t : List Row) (n low high : ℕ) where
   abbrev number : ℕ
   number = (row_at t (middle low high)).number
 
-  pub ended : high ≤ low → halving left t n low high ≡ (Nothing, [])
+  pub ended : high ≤ low → halving left t n low high ≡ (None, [])
   unfolding halving
   ended h = at left
     where
-      at : (k : ℕ) → halving k t n low high ≡ (Nothing, [])
+      at : (k : ℕ) → halving k t n low high ≡ (None, [])
       at zero = refl
       at (suc k) = simp (le-ltb low high h)
 
-  pub here : low < high → number ≡ n → halving (suc left) t n low high ≡ (At (middle low high) (row_at t (middle low high)), middle low high ∷ [])
+  pub here : low < high → number ≡ n → halving (suc left) t n low high ≡ (Some (middle low high, row_at t (middle low high)), middle low high ∷ [])
   unfolding halving
   here h e = simp (lt-ltb low high h, eq-eqb number n e)
 
@@ -50,8 +50,8 @@ module _ (left : ℕ) (t : List Row) (n low high : ℕ) where
 
   -- which of these it is, and what is shown of all of them holds
   pub by_turn : (P : Looked → Type 0) →
-      (high ≤ low → P (Nothing, [])) →
-      (low < high → number ≡ n → P (At (middle low high) (row_at t (middle low high)), middle low high ∷ [])) →
+      (high ≤ low → P (None, [])) →
+      (low < high → number ≡ n → P (Some (middle low high, row_at t (middle low high)), middle low high ∷ [])) →
       (low < high → number < n → P (after (middle low high) (halving left t n (suc (middle low high)) high))) →
       (low < high → n < number → P (after (middle low high) (halving left t n low (middle low high)))) →
       P (halving (suc left) t n low high)
@@ -59,7 +59,7 @@ module _ (left : ℕ) (t : List Row) (n low high : ℕ) where
   by_turn P e q a b = at (ltb low high) refl (eqb number n) refl (ltb number n) refl
     where
       at : (x : Bool) → ltb low high ≡ x → (y : Bool) → eqb number n ≡ y → (z : Bool) → ltb number n ≡ z →
-          P (pick x (after (middle low high) (pick y (At (middle low high) (row_at t (middle low high)), []) (pick z (halving left t n (suc (middle low high)) high) (halving left t n low (middle low high))))) (Nothing, []))
+          P (pick x (after (middle low high) (pick y (Some (middle low high, row_at t (middle low high)), []) (pick z (halving left t n (suc (middle low high)) high) (halving left t n low (middle low high))))) (None, []))
       at true h true p z r = q (ltb-true low high h) (eqb-true number n p)
       at true h false p true r = a (ltb-true low high h) (ltb-true number n r)
       at true h false p false r =
@@ -128,7 +128,7 @@ settles (suc left) t u n low high =
     let m = middle low high in
     by_turn left t n low high (λ s. Agree t u s.1 → halving (suc left) u n low high ≡ s)
     (λ h a. ended (suc left) u n low high h)
-    (λ h e a. here left u n low high h (ap (λ (r : Row). r.number) (a 0 (omega arith)) ∙ e) ∙ ap (λ (r : Row). (At m r, m ∷ [])) (a 0 (omega arith)))
+    (λ h e a. here left u n low high h (ap (λ (r : Row). r.number) (a 0 (omega arith)) ∙ e) ∙ ap (λ (r : Row). (Some (m, r), m ∷ [])) (a 0 (omega arith)))
     (λ h e a. above left u n low high h (subst (λ (r : Row). r.number < n) (sym (a 0 (omega arith))) e) ∙ ap (after m) (settles left t u n (suc m) high (λ j l. a (suc j) (omega arith))))
     (λ h e a. below left u n low high h (subst (λ (r : Row). n < r.number) (sym (a 0 (omega arith))) e) ∙ ap (after m) (settles left t u n low m (λ j l. a (suc j) (omega arith))))
 
@@ -144,21 +144,18 @@ wider : (t : List Row) (n low high low' high' i : ℕ) (r : Row) → low ≤ low
 wider t n low high low' high' i r a b s = record { from = omega (arith, s.from); before = omega (arith, s.before); row = s.row; bears = s.bears }
 
 -- in any table
-pub sound : (left : ℕ) (t : List Row) (n low high i : ℕ) (r : Row) → (halving left t n low high).0 ≡ At i r → Stands t n low high i r
+pub sound : (left : ℕ) (t : List Row) (n low high i : ℕ) (r : Row) → (halving left t n low high).0 ≡ Some (i, r) → Stands t n low high i r
 sound zero t n low high i r = rw (no_look t n low high) (λ e. clash (cc))
 sound (suc left) t n low high i r =
     let m = middle low high in
-    by_turn left t n low high (λ s. s.0 ≡ At i r → Stands t n low high i r)
+    by_turn left t n low high (λ s. s.0 ≡ Some (i, r) → Stands t n low high i r)
     (λ h e. clash (cc))
-    (λ h q e. at h q (middle_is i r m (row_at t m) e) (row_is i r m (row_at t m) e))
+    (λ h q e. let p = same (m, row_at t m) (i, r) e in at h q (ap (λ (y : ℕ × Row). y.0) p) (ap (λ (y : ℕ × Row). y.1) p))
     (λ h q e. wider t n low high (suc m) high i r (omega arith) (omega arith) (sound left t n (suc m) high i r e))
     (λ h q e. wider t n low high low m i r (omega arith) (omega arith) (sound left t n low m i r e))
   where
-    middle_is : (i : ℕ) (r : Row) (m : ℕ) (x : Row) → At m x ≡ At i r → m ≡ i
-    middle_is i r m x e = cc
-
-    row_is : (i : ℕ) (r : Row) (m : ℕ) (x : Row) → At m x ≡ At i r → x ≡ r
-    row_is i r m x e = cc
+    same : (p q : ℕ × Row) → Some p ≡ Some q → p ≡ q
+    same p q e = cc
 
     at : low < high → (row_at t (middle low high)).number ≡ n → middle low high ≡ i → row_at t (middle low high) ≡ r → Stands t n low high i r
     at h q p x = record {
@@ -193,12 +190,12 @@ module _ (t : List Row) (up : Rising t) (i j : ℕ) (within : i < length t) (wit
   alone e = ordered (i ≡ j) (λ p q. omega arith) (λ p q. p) (λ p q. omega arith)
 
 -- in a table in rising order the row that bears n is found, among those that the looks left cover
-pub complete : (left : ℕ) (t : List Row) → Rising t → (n low high i : ℕ) → high ≤ length t → high - low ≤ covers left → low ≤ i → i < high → (row_at t i).number ≡ n → (halving left t n low high).0 ≡ At i (row_at t i)
+pub complete : (left : ℕ) (t : List Row) → Rising t → (n low high i : ℕ) → high ≤ length t → high - low ≤ covers left → low ≤ i → i < high → (row_at t i).number ≡ n → (halving left t n low high).0 ≡ Some (i, row_at t i)
 complete zero t up n low high i l w a b e = let no : ⊥ = omega arith in absurd no
 complete (suc left) t up n low high i l w a b e =
     let m = middle low high in
-    by_turn left t n low high (λ s. s.0 ≡ At i (row_at t i))
+    by_turn left t n low high (λ s. s.0 ≡ Some (i, row_at t i))
     (λ h. let no : ⊥ = omega arith in absurd no)
-    (λ h q. ap (λ (k : ℕ). At k (row_at t k)) (alone t up m i (omega arith) (omega arith) (q ∙ sym e)))
+    (λ h q. ap (λ (k : ℕ). Some (k, row_at t k)) (alone t up m i (omega arith) (omega arith) (q ∙ sym e)))
     (λ h q. complete left t up n (suc m) high i l (above_covered left low high h w) (lower t up m i (omega arith) (omega arith) (omega arith)) b e)
     (λ h q. complete left t up n low m i (omega arith) (below_covered left low high h w) a (lower t up i m (omega arith) (omega arith) (omega arith)) e)

@@ -6,7 +6,7 @@ use lib.ListN.{get_or-map}
 use Rattle.registers.specs.Views.{no_bits}
 use Rattle.registers.specs.Registers.{count, register, registers, at}
 use Rattle.table.specs.declared.Row.{Row}
-use Rattle.table.specs.declared.Found.TheVariants.{At}
+use Rattle.std.specs.Prelude.{Some}
 use Rattle.table.specs.Table.{row_of, table, first_at}
 use Rattle.table.proofs.First.{found}
 
@@ -15,7 +15,7 @@ pub record Listed (n i : ℕ) (r : Row) : Type 0 where
   pub row : r ≡ row_of (at i)
   pub number : (at i).number ≡ n
 
-pub lookup-found : (n i : ℕ) (r : Row) → first_at table n 0 ≡ At i r → Listed n i r
+pub lookup-found : (n i : ℕ) (r : Row) → first_at table n 0 ≡ Some (i, r) → Listed n i r
 lookup-found n i r e =
     let b = found table n 0 i r e in
     let o : b.offset ≡ i = omega (arith, b.counted) in

@@ -14,8 +14,7 @@ use Rattle.bits.specs.Every.{every}
 use Rattle.bits.proofs.Every.{every-below}
 use Rattle.registers.specs.Registers.{count}
 use Rattle.table.specs.declared.Row.{Row}
-use Rattle.table.specs.declared.Found.{Found}
-use Rattle.table.specs.declared.Found.TheVariants.{At, Nothing}
+use Rattle.std.specs.Prelude.{Option, Some, None}
 use Rattle.table.specs.Table.{table, first_at}
 use Rattle.table.specs.Search.{looks, row_at, Looked, halving, told_from, searched, Rising}
 use Rattle.table.proofs.First.{found, Unlisted, nothing_exactly}
@@ -90,7 +89,7 @@ module _ (t : List Row) (n : ℕ) where
       (settles looks t u n 0 count (λ k h. subst (λ (p : ℕ). row_at u p ≡ row_at t p) (told_is k) (a k (omega (arith, count_is)))))
 
   -- whatever is found stands there and bears the number
-  pub found_stands : (i : ℕ) (r : Row) → (searched t n).found ≡ At i r → Stands t n 0 count i r
+  pub found_stands : (i : ℕ) (r : Row) → (searched t n).found ≡ Some (i, r) → Stands t n 0 count i r
   unfolding searched
   found_stands i r e = sound looks t n 0 count i r e
 
@@ -98,7 +97,7 @@ module _ (t : List Row) (n : ℕ) where
 
 module _ (t : List Row) (long : length t ≡ count) (up : Rising t) (n : ℕ) where
   -- "it finds the row that bears it", at its place
-  pub finds : (i : ℕ) → i < count → (row_at t i).number ≡ n → (searched t n).found ≡ At i (row_at t i)
+  pub finds : (i : ℕ) → i < count → (row_at t i).number ≡ n → (searched t n).found ≡ Some (i, row_at t i)
   unfolding searched
   finds i h e = complete looks t up n 0 count i (omega arith) (omega arith) (omega arith) h e
 
@@ -106,22 +105,22 @@ module _ (t : List Row) (long : length t ≡ count) (up : Rising t) (n : ℕ) wh
   pub finds_first : (searched t n).found ≡ first_at t n 0
   finds_first = at (first_at t n 0) refl
     where
-      at : (f : Found) → first_at t n 0 ≡ f → (searched t n).found ≡ f
-      at (At i r) e =
+      at : (f : Option (ℕ × Row)) → first_at t n 0 ≡ f → (searched t n).found ≡ f
+      at (Some (i, r)) e =
           let b = found t n 0 i r e in
           let o : b.offset ≡ i = omega (arith, b.counted) in
           let row : row_at t i ≡ r = subst (λ (k : ℕ). row_at t k ≡ r) o b.here in
-          finds i (omega (arith, b.within)) (ap (λ (x : Row). x.number) row ∙ b.bears) ∙ ap (At i) row
-      at Nothing e = none (searched t n).found refl
+          finds i (omega (arith, b.within)) (ap (λ (x : Row). x.number) row ∙ b.bears) ∙ ap (λ (x : Row). Some (i, x)) row
+      at None e = none (searched t n).found refl
         where
-          none : (g : Found) → (searched t n).found ≡ g → g ≡ Nothing
-          none (At i r) q =
+          none : (g : Option (ℕ × Row)) → (searched t n).found ≡ g → g ≡ None
+          none (Some (i, r)) q =
               let s = found_stands t n i r q in
               absurd ((nothing_exactly t n 0).0 e i (omega (arith, s.before)) (ap (λ (x : Row). x.number) s.row ∙ s.bears))
-          none Nothing q = refl
+          none None q = refl
 
   -- "and none exactly if no row does"
-  pub none_exactly : ((searched t n).found ≡ Nothing) ↔ Unlisted t n
+  pub none_exactly : ((searched t n).found ≡ None) ↔ Unlisted t n
   none_exactly =
       (λ e. (nothing_exactly t n 0).0 (sym finds_first ∙ e), λ u. finds_first ∙ (nothing_exactly t n 0).1 u)
 

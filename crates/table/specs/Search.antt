@@ -1,11 +1,10 @@
 -- The search of a table by number (2026-06): "find it by any means that looks at no more than eight rows".
-use Rattle.std.specs.Prelude.{false, List, [], ◌∷◌, ℕ, zero, suc, ◌+◌, ◌/◌, ◌<◌, eqb, ltb, length, get_or, replicate}
+use Rattle.std.specs.Prelude.{Option, Some, None, false, List, [], ◌∷◌, ℕ, zero, suc, ◌+◌, ◌/◌, ◌<◌, eqb, ltb, length, get_or, replicate}
 use Rattle.std.proofs.lemmas.List.Edits.{sets}
 use Rattle.bits.specs.Field.{pick}
 use Rattle.registers.specs.Registers.{count}
 use Rattle.table.specs.declared.Row.{Row}
-use Rattle.table.specs.declared.Found.{Found}
-use Rattle.table.specs.declared.Found.TheVariants.{At, Nothing}
+use Rattle.table.specs.declared.Level.TheVariants.{Supervisor}
 use Rattle.table.specs.declared.Searched.{Searched}
 
 -- "no more than eight"
@@ -13,12 +12,12 @@ abbrev pub looks : ℕ
 looks = 8
 
 -- what stands past a table's end
-abbrev pub none : Row
-none = record { number = 0; level = 0; read_only = false; mask = 0 }
+abbrev pub no_row : Row
+no_row = record { number = 0; level = Supervisor; read_only = false; mask = 0 }
 
 -- the row at a place of any table
 abbrev pub row_at : List Row → ℕ → Row
-row_at t place = get_or t place none
+row_at t place = get_or t place no_row
 
 -- k rows from place first on, and whatever follows them (for a contract of code)
 abbrev pub rows_from : List Row → (k first : ℕ) → List Row → List Row
@@ -27,7 +26,7 @@ rows_from t (suc k) first rest = row_at t first ∷ rows_from t k (suc first) re
 
 -- what was found, and "which places it looked at", in their order
 abbrev pub Looked : Type 0
-Looked = Found × List ℕ
+Looked = Option (ℕ × Row) × List ℕ
 
 -- a look at a place, and those that follow it
 abbrev pub after : (place : ℕ) → Looked → Looked
@@ -36,15 +35,15 @@ after place s = (s.0, place ∷ s.1)
 -- "by any means": by halves. Among the rows from place low to before place high, with so many looks left: the middle one; if it
 -- does not bear n, those above it where its number is lower, and those below it where it is not
 unfoldable pub halving : (left : ℕ) → List Row → (n low high : ℕ) → Looked
-halving zero t n low high = (Nothing, [])
+halving zero t n low high = (None, [])
 halving (suc left) t n low high =
     let middle : ℕ = (low + high) / 2 in
     let row : Row = row_at t middle in
     pick (ltb low high)
     (after middle
-    (pick (eqb row.number n) (At middle row, [])
+    (pick (eqb row.number n) (Some (middle, row), [])
     (pick (ltb row.number n) (halving left t n (suc middle) high) (halving left t n low middle))))
-    (Nothing, [])
+    (None, [])
 
 -- "and says which places it looked at": written in their order into an array from place from on, the rest of it as it is
 abbrev pub told_from : (places : List ℕ) (from : ℕ) → Looked → Searched

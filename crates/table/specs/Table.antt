@@ -1,25 +1,39 @@
 -- One constant table of rows, one for each register (document 01), its search, and where each row's bits are kept.
-use Rattle.std.specs.Prelude.{Bool, List, [], ◌∷◌, map, ℕ, suc, ◌+◌, eqb, ltb, get_or}
+use Rattle.std.specs.Prelude.{Option, Some, None, Bool, true, false, List, [], ◌∷◌, map, ℕ, suc, ◌+◌, eqb, slice_get}
 use Rattle.bits.specs.Field.{pick, top}
-use Rattle.registers.specs.Places.{kept}
 use Rattle.registers.specs.Views.{View}
-use Rattle.registers.specs.Registers.{supervisor, Register, registers}
+use Rattle.registers.specs.Registers.{supervisor, hypervisor, machine, Register, registers}
+use Rattle.table.specs.declared.Level.{Level}
+use Rattle.table.specs.declared.Level.TheVariants.{Supervisor, Hypervisor, Machine}
 use Rattle.table.specs.declared.Row.{Row}
-use Rattle.table.specs.declared.Found.{Found}
-use Rattle.table.specs.declared.Found.TheVariants.{At, Nothing}
 use Rattle.table.specs.declared.kept.Kept.{Kept}
+
+-- a level by its number in the list of the registers
+abbrev pub level_of : ℕ → Level
+level_of n = pick (eqb n machine) Machine (pick (eqb n hypervisor) Hypervisor Supervisor)
+
+-- M's; VS's and H's
+abbrev pub is_machine : Level → Bool
+is_machine Supervisor = false
+is_machine Hypervisor = false
+is_machine Machine = true
+
+abbrev pub is_hypervisor : Level → Bool
+is_hypervisor Supervisor = false
+is_hypervisor Hypervisor = true
+is_hypervisor Machine = false
 
 -- "number, level, read-only flag and stored-bits mask": what the code's table has of a register
 abbrev pub row_of : Register → Row
-row_of r = record { number = r.number; level = r.level; read_only = r.read_only; mask = r.view.writes }
+row_of r = record { number = r.number; level = level_of r.level; read_only = r.read_only; mask = r.view.writes }
 
 abbrev pub table : List Row
 table = map row_of registers
 
 -- the first row that bears n, with its place, counted from i
-unfoldable pub first_at : List Row → ℕ → ℕ → Found
-first_at [] n i = Nothing
-first_at (r ∷ rs) n i = pick (eqb r.number n) (At i r) (first_at rs n (suc i))
+unfoldable pub first_at : List Row → ℕ → ℕ → Option (ℕ × Row)
+first_at [] n i = None
+first_at (r ∷ rs) n i = pick (eqb r.number n) (Some (i, r)) (first_at rs n (suc i))
 
 -- "In VS an S number reaches its VS register" (with V=1 no other mode gets so far)
 abbrev pub reached : (guest : Bool) → Register → View
@@ -46,6 +60,6 @@ abbrev pub numbers : List Register → List ℕ
 numbers [] = []
 numbers (r ∷ rs) = pick (eqb r.view.shows top) (r.number ∷ numbers rs) (numbers rs)
 
--- the number of the register kept at a place; 4096, which is no register's, past these
-abbrev pub number_at : ℕ → ℕ
-number_at place = pick (ltb place kept) (get_or (numbers registers) place 0) 4096
+-- the number of the register kept at a place; none past these
+abbrev pub number_at : ℕ → Option ℕ
+number_at place = slice_get (numbers registers) place

@@ -175,13 +175,9 @@ pub fn reach(place: usize, guest: bool) -> Kept
     kept_at(place)
 }
 
-// The number of the register kept at a place; 4096, which is no register's, past these.
-pub fn number(place: usize) -> u64
+// The number of the register kept at a place; none past these.
+pub fn number(place: usize) -> Option<u64>
     ensures { result ≡ number_at place }
 {
-    if place >= places::KEPT {
-        return 4096;
-    }
-    let all = all_numbers();
-    all[place]
+    all_numbers().get(place).copied()
 }

@@ -1,4 +1,5 @@
 -- What an access that was not refused has, and what the code finds before the walk. Assumes nothing.
+use Rattle.std.specs.Prelude.{Ok, Err}
 use mathlib.Core.Path.{◌≡◌, refl, sym, subst}
 use mathlib.Core.Bool.{Bool, true, false, ◌||◌, not}
 use mathlib.Core.List.{List, [], ◌∷◌}
@@ -17,19 +18,17 @@ use Rattle.rules.specs.declared.Kind.{Kind}
 use Rattle.rules.specs.declared.Kind.TheVariants.{Fetch, Load, Store}
 use Rattle.rules.specs.Kind.{by}
 use Rattle.access.specs.declared.Access.{Access}
-use Rattle.access.specs.declared.Machine.{Machine}
 use Rattle.access.specs.Widths.{known, misaligned}
 use Rattle.access.specs.Faults.{misalignment}
 use Rattle.access.proofs.Widths.{Aligned, a_power}
 use Rattle.stages.specs.Tree.{run}
-use Rattle.stages.specs.Stages.{Result, yields, faults, look, walk_of}
+use Rattle.stages.specs.Stages.{look, walk_of}
 use Rattle.second_stage.specs.Place.{Tables}
-use Rattle.second_stage.specs.Words.{reached, result_of}
 use Rattle.effective.specs.Effective.{effective}
 use Rattle.effective.proofs.Roots.{first_five, second_five}
+use Rattle.exceptions.specs.declared.Refusal.{Refusal}
 use Rattle.translate.specs.declared.Answer.{Answer}
-use Rattle.translate.specs.declared.Start.TheVariants.{Answered, Walks}
-use Rattle.translate.specs.Translated.{unsupported, first_refusal, unless_refused, access_of, start_of, answer, unwalked, walked_to, translated}
+use Rattle.translate.specs.Translated.{unsupported, refusals, first_refusal, unless_refused, access_of, start_of, unwalked, walked_to, translated}
 
 -- an access that is not refused has a known width
 pub known-width : (kind : Kind) (address width : ℕ) → unsupported kind address width ≡ false → known width ≡ true
@@ -74,23 +73,18 @@ tables-of h kind address width =
     let s = second_five (paging h) (effective (context h) kind) in
     record { first = f.levels; second = s.levels; first_root = f.ppn; second_root = s.ppn }
 
--- a walk's result gives the same answer as the code has it
-pub same_answer : (o : Result Machine) → answer (result_of (reached o)) ≡ answer o
-same_answer (yields m) = refl
-same_answer (faults f) = refl
-
 -- ---- what the code finds before the walk
 
 module _ (h : Hart) (base len : ℕ) (kind : Kind) (address width : ℕ) where
   -- a walk is for the access itself, over an image that fits
-  pub walks : (a : Access) → start_of h base len kind address width ≡ Walks a → (access_of h kind address width ≡ a) × (unfit base len ≡ false)
+  pub walks : (a : Access) → start_of h base len kind address width ≡ Ok a → (access_of h kind address width ≡ a) × (unfit base len ≡ false)
   unfolding start_of
   walks a = go (not (passes h)) (unfit base len) (unsupported kind address width) (misaligned kind address width)
     where
       accessed : Access
       accessed = access_of h kind address width
 
-      go : (b₁ b₂ b₃ b₄ : Bool) → unless_refused (first_refusal ((b₁, 2) ∷ (b₂, 1) ∷ (b₃, 3) ∷ [])) (pick b₄ (Answered (Answer.Fault (misalignment accessed))) (Walks accessed)) ≡ Walks a
+      go : (b₁ b₂ b₃ b₄ : Bool) → unless_refused (first_refusal ((b₁, Refusal.Hart) ∷ (b₂, Refusal.Image) ∷ (b₃, Refusal.Access) ∷ [])) (pick b₄ (Err (Answer.Fault (misalignment accessed))) (Ok accessed)) ≡ Ok a
           → (accessed ≡ a) × (b₂ ≡ false)
       go true b₂ b₃ b₄ e = clash (cc)
       go false true b₃ b₄ e = clash (cc)
@@ -98,12 +92,22 @@ module _ (h : Hart) (base len : ℕ) (kind : Kind) (address width : ℕ) where
       go false false false true e = clash (cc)
       go false false false false e = (cc, refl)
 
-  pub walks_tables : (a : Access) → start_of h base len kind address width ≡ Walks a → Tables a
+  -- what is taken has a form
+  pub accepted : {x : Unit {0}} → first_refusal (refusals h base len kind address width) ≡ Ok x → unsupported kind address width ≡ false
+  accepted = go (not (passes h)) (unfit base len) (unsupported kind address width)
+    where
+      go : (b₁ b₂ b₃ : Bool) → {x : Unit {0}} → first_refusal ((b₁, Refusal.Hart) ∷ (b₂, Refusal.Image) ∷ (b₃, Refusal.Access) ∷ []) ≡ Ok x → b₃ ≡ false
+      go true b₂ b₃ e = clash (cc)
+      go false true b₃ e = clash (cc)
+      go false false true e = clash (cc)
+      go false false false e = refl
+
+  pub walks_tables : (a : Access) → start_of h base len kind address width ≡ Ok a → Tables a
   walks_tables a s = subst Tables (walks a s).0 (tables-of h kind address width)
 
 module _ (h : Hart) (base : ℕ) (bytes : List ℕ) (kind : Kind) (address width : ℕ) where
   -- an answer, with an empty list
-  pub at_once : (x : Answer) → start_of h base (length bytes) kind address width ≡ Answered x → translated h base bytes kind address width ≡ unwalked h x
+  pub at_once : (x : Answer) → start_of h base (length bytes) kind address width ≡ Err x → translated h base bytes kind address width ≡ unwalked h x
   unfolding translated
   at_once x e = rw e
 
@@ -113,7 +117,7 @@ module _ (h : Hart) (base : ℕ) (bytes : List ℕ) (kind : Kind) (address width
     pub ends : base + length bytes ≤ 2 ^ 56
     pub tables : Tables a
 
-  pub walking : (a : Access) → start_of h base (length bytes) kind address width ≡ Walks a → Walking a
+  pub walking : (a : Access) → start_of h base (length bytes) kind address width ≡ Ok a → Walking a
   unfolding translated
   walking a s =
       record {

@@ -1,17 +1,21 @@
 -- Demand 3 of every translation, for every hart, image and access: refused, misaligned or walked. Assumes nothing.
+use Rattle.std.specs.Prelude.{Result, Ok, Err}
 use mathlib.Core.Path.{◌≡◌, refl, sym, ap, subst, ◌∙◌}
 use mathlib.Core.Bool.{Bool, true, false}
 use mathlib.Core.List.{List, [], ◌∷◌, ◌++◌}
-use Prim.Native.Nat.{ℕ, zero, suc, ◌-◌, ◌*◌, ◌<◌, ◌≤◌, zero-le}
+use Prim.Native.Nat.{ℕ, ◌-◌, ◌*◌, ◌<◌, ◌≤◌, zero-le}
 use native.Mathlib.Nat.{mul-one, one-mul}
 use native.Mathlib.Omega.{arith}
 use lib.ListN.{length, take, drop}
 use lib.Seq.{take-append_seam, drop-append_seam}
+use Rattle.exceptions.specs.declared.Exception.{Exception}
 use Rattle.bits.specs.Field.{pick, get}
 use Rattle.bits.proofs.Bools.{clash}
 use Rattle.registers.specs.Fields.{MXR, MODE}
 use Rattle.registers.specs.Places.{vsatp, hgatp, mstatus}
 use Rattle.privilege.specs.Mode.{is_set}
+use Rattle.exceptions.specs.declared.Refusal.{Refusal}
+use Rattle.exceptions.specs.Refusal.{number}
 use Rattle.hart.specs.declared.state.Hart.{Hart}
 use Rattle.hart.specs.Hart.{reg, context, passes}
 use Rattle.image.specs.Image.{unfit}
@@ -25,18 +29,16 @@ use Rattle.access.specs.Widths.{misaligned}
 use Rattle.access.specs.Faults.{misalignment}
 use Rattle.stages.specs.declared.Read.{Read}
 use Rattle.stages.specs.Tree.{Ran, run}
-use Rattle.stages.specs.Stages.{Result, yields, faults, look, walk_of}
+use Rattle.stages.specs.Stages.{look, walk_of}
 use Rattle.stages.specs.Listed.{places, most, unused}
 use Rattle.stages.specs.Through.{Agree, Shown, own_right, GuestEntry, AnsweredThrough}
 use Rattle.stages.proofs.Bounds.{most-places, at_most}
 use Rattle.stages.proofs.Images.{same-walk, shown-run}
 use Rattle.stages.proofs.Guarded.{guarded}
 use Rattle.translate.specs.declared.Answer.{Answer}
-use Rattle.translate.specs.declared.Start.{Start}
-use Rattle.translate.specs.declared.Start.TheVariants.{Answered, Walks}
 use Rattle.translate.specs.declared.Translated.{Translated}
 use Rattle.effective.specs.Effective.{effective, depth, root}
-use Rattle.translate.specs.Translated.{unsupported, refusals, first_refusal, refusal, unless_refused, access_of, start_of, answer, unwalked, walked_to, concluded, translated}
+use Rattle.translate.specs.Translated.{unsupported, refusals, first_refusal, refusal_number, refusal, unless_refused, access_of, start_of, answer, unwalked, walked_to, concluded, translated}
 use Rattle.translate.specs.On.{first_on, second_on, first_depth, second_depth}
 use Rattle.translate.proofs.Accesses.{tables-of}
 use Rattle.translate.proofs.On.{first-depth, second-depth, first_off, second-off, first-tables, second-tables, second-levels}
@@ -46,7 +48,7 @@ use Rattle.translate.proofs.Cases.{ran_of, AtOnce, refused, misaligned-by, each}
 abbrev pub listed : Translated → List Read
 listed t = take t.count t.reads
 
-pub listed-walk : (h : Hart) (r : Ran (Result Machine)) → listed (walked_to h r) ≡ r.reads
+pub listed-walk : (h : Hart) (r : Ran (Result Machine Exception)) → listed (walked_to h r) ≡ r.reads
 listed-walk h r = take-append_seam r.reads (unused (places - length r.reads))
 
 -- no item is of the empty list
@@ -54,19 +56,28 @@ pub not_empty : {P : Type 0} (earlier : List Read) (x : Read) (later : List Read
 not_empty [] x later e = clash (cc)
 not_empty (y ∷ ys) x later e = clash (cc)
 
-address-yielded : (o : Result Machine) (m : Machine) → answer o ≡ Answer.Address m → o ≡ yields m
-address-yielded (yields x) m e = let q : x ≡ m = cc in ap yields q
-address-yielded (faults f) m e = clash (cc)
+address-yielded : (o : Result Machine Exception) (m : Machine) → answer o ≡ Answer.Address m → o ≡ Ok m
+address-yielded (Ok x) m e = let q : x ≡ m = cc in ap Ok q
+address-yielded (Err f) m e = clash (cc)
 
-walk_accepted : (o : Result Machine) → refusal (answer o) ≡ 0
-walk_accepted (yields m) = refl
-walk_accepted (faults f) = refl
+walk_accepted : (o : Result Machine Exception) → refusal (answer o) ≡ 0
+walk_accepted (Ok m) = refl
+walk_accepted (Err f) = refl
+
+-- 0 is no refusal's number
+numbered : {P : Type 0} (r : Refusal) → number r ≡ 0 → P
+numbered Refusal.Image e = absurd (omega arith)
+numbered Refusal.Hart e = absurd (omega arith)
+numbered Refusal.Access e = absurd (omega arith)
+numbered Refusal.Request e = absurd (omega arith)
+numbered Refusal.Register e = absurd (omega arith)
+numbered Refusal.Place e = absurd (omega arith)
 
 module _ (h : Hart) (base : ℕ) (bytes : List ℕ) (kind : Kind) (address width : ℕ) where
   abbrev a : Access
   a = access_of h kind address width
 
-  abbrev ran : Ran (Result Machine)
+  abbrev ran : Ran (Result Machine Exception)
   ran = ran_of h base bytes kind address width
 
   abbrev t : Translated
@@ -83,30 +94,25 @@ module _ (h : Hart) (base : ℕ) (bytes : List ℕ) (kind : Kind) (address width
   same_hart = each h base bytes kind address width (λ (x : Translated). x.hart ≡ h) (λ x e. refl) (λ p k. refl)
 
   -- a refusal is given exactly by the list of refusals
-  pub refused-by : refusal t.answer ≡ first_refusal (refusals h base (length bytes) kind address width)
+  pub refused-by : refusal t.answer ≡ refusal_number (first_refusal (refusals h base (length bytes) kind address width))
   unfolding translated start_of
   refused-by = go (first_refusal (refusals h base (length bytes) kind address width)) (misaligned kind address width)
     where
-      go : (n : ℕ) (b : Bool) → refusal (concluded h base bytes (unless_refused n (pick b (Answered (Answer.Fault (misalignment a))) (Walks a)))).answer ≡ n
-      go (suc n) b = refl
-      go zero true = refl
-      go zero false = walk_accepted ran.end
+      go : (r : Result (Unit {0}) Refusal) (b : Bool) → refusal (concluded h base bytes (unless_refused r (pick b (Err (Answer.Fault (misalignment a))) (Ok a)))).answer ≡ refusal_number r
+      go (Err r) b = refl
+      go (Ok x) true = refl
+      go (Ok x) false = walk_accepted ran.end
 
   -- a refusal leaves the hart as given and the list empty
-  pub refusal_empty : 0 < refusal t.answer → t ≡ unwalked h (Answer.Refused (refusal t.answer))
-  refusal_empty =
-      each h base bytes kind address width (λ (x : Translated). 0 < refusal x.answer → x ≡ unwalked h (Answer.Refused (refusal x.answer))) at_once (λ p k q. absurd (omega (arith, walk_accepted ran.end)))
-    where
-      at_once : (x : Answer) → AtOnce h base bytes kind address width x → 0 < refusal x → unwalked h x ≡ unwalked h (Answer.Refused (refusal x))
-      at_once x (refused n) q = refl
-      at_once x (misaligned-by p) q = absurd (omega arith)
+  pub refusal_empty : 0 < refusal t.answer → t ≡ unwalked h t.answer
+  refusal_empty = each h base bytes kind address width (λ (x : Translated). 0 < refusal x.answer → x ≡ unwalked h x.answer) (λ x e q. refl) (λ p k q. absurd (omega (arith, walk_accepted ran.end)))
 
   -- an accepted translation leaves a hart that passes check 2
   pub accepted_passes : refusal t.answer ≡ 0 → passes t.hart ≡ true
   accepted_passes = each h base bytes kind address width (λ (x : Translated). refusal x.answer ≡ 0 → passes x.hart ≡ true) at_once (λ p k q. p)
     where
       at_once : (x : Answer) → AtOnce h base bytes kind address width x → refusal x ≡ 0 → passes h ≡ true
-      at_once x (refused n) q = absurd (omega arith)
+      at_once x (refused r) q = numbered r q
       at_once x (misaligned-by p) q = p
 
   -- "n levels over m levels read at most (n+1)(m+1)-1 entries": as deep as the registers that the access walks say, 0 where it walks none or Bare
@@ -189,6 +195,6 @@ pub same_image : (h : Hart) (base : ℕ) (s s' : List ℕ) (kind : Kind) (addres
 unfolding translated
 same_image h base s s' kind address width e = rw (← e) (go (start_of h base (length s) kind address width))
   where
-    go : (x : Start) → Agree (look base s) (look base s') (listed (concluded h base s x)) → concluded h base s' x ≡ concluded h base s x
-    go (Answered x) g = refl
-    go (Walks a) g = rw (← e) (ap (walked_to h) (same-walk base s s' e (walk_of base (length s) a) (rw (listed-walk h (run (look base s) (walk_of base (length s) a))) at g)))
+    go : (x : Result Access Answer) → Agree (look base s) (look base s') (listed (concluded h base s x)) → concluded h base s' x ≡ concluded h base s x
+    go (Err x) g = refl
+    go (Ok a) g = rw (← e) (ap (walked_to h) (same-walk base s s' e (walk_of base (length s) a) (rw (listed-walk h (run (look base s) (walk_of base (length s) a))) at g)))

@@ -1,14 +1,16 @@
 -- What a translation's faults tell. Assumes nothing.
+use Rattle.std.specs.Prelude.{Result, Ok, Err}
 use mathlib.Core.Path.{◌≡◌, refl, subst}
 use mathlib.Core.Bool.{Bool, true, false}
 use mathlib.Core.List.{List}
-use Prim.Native.Nat.{ℕ, zero, suc, ◌≤◌}
+use Prim.Native.Nat.{ℕ, ◌≤◌}
 use lib.ListN.{length}
 use Rattle.bits.specs.Field.{pick}
 use Rattle.bits.proofs.Bools.{clash}
 use Rattle.exceptions.specs.declared.Exception.{Exception}
 use Rattle.registers.specs.Places.{vsatp}
 use Rattle.registers.specs.Rules.{among}
+use Rattle.exceptions.specs.declared.Refusal.{Refusal}
 use Rattle.hart.specs.declared.state.Hart.{Hart}
 use Rattle.hart.specs.Hart.{reg}
 use Rattle.rules.specs.declared.Kind.{Kind}
@@ -26,7 +28,6 @@ use Rattle.stages.proofs.Raised.{every-fault}
 use Rattle.stages.proofs.Guarded.{guest-page-fault}
 use Rattle.effective.specs.Effective.{root}
 use Rattle.translate.specs.declared.Answer.{Answer}
-use Rattle.translate.specs.declared.Start.TheVariants.{Answered, Walks}
 use Rattle.translate.specs.declared.Translated.{Translated}
 use Rattle.translate.specs.Translated.{refusals, first_refusal, unless_refused, access_of, start_of, unwalked, concluded, translated}
 use Rattle.translate.specs.On.{second_on}
@@ -54,11 +55,11 @@ module _ (h : Hart) (base : ℕ) (bytes : List ℕ) (kind : Kind) (address width
       of-misaligned : (k : Kind) → misaligned k address width ≡ true → among (by k 0 4 6) (causes_of k) ≡ true
       of-misaligned = each_kind (λ k. misaligned k address width ≡ true → among (by k 0 4 6) (causes_of k) ≡ true) (λ e. clash e) (λ e. refl) (λ e. refl)
 
-      go : (n : ℕ) (b : Bool) → misaligned kind address width ≡ b → (concluded h base bytes (unless_refused n (pick b (Answered (Answer.Fault (misalignment a))) (Walks a)))).answer ≡ Answer.Fault f
+      go : (r : Result (Unit {0}) Refusal) (b : Bool) → misaligned kind address width ≡ b → (concluded h base bytes (unless_refused r (pick b (Err (Answer.Fault (misalignment a))) (Ok a)))).answer ≡ Answer.Fault f
           → among f.cause (causes_of kind) ≡ true
-      go (suc n) b e q = clash (cc)
-      go zero true e q = let k : misalignment a ≡ f = cc in rw (← k) (of-misaligned kind e)
-      go zero false e q =
+      go (Err r) b e q = clash (cc)
+      go (Ok x) true e q = let k : misalignment a ≡ f = cc in rw (← k) (of-misaligned kind e)
+      go (Ok x) false e q =
           every-fault (λ x. among x.cause (causes_of kind) ≡ true) base (length bytes) a (own 1 5 7 refl refl refl kind) (own 12 13 15 refl refl refl kind) (λ on g. own 20 21 23 refl refl refl kind)
           (λ on g. own 20 21 23 refl refl refl kind) (look base bytes) f (fault-ended _ f q)
 

@@ -2,28 +2,40 @@
 #![tactic(auto)]
 
 ghost use Rattle.std.specs.Prelude.{◌≡◌};
-ghost use Rattle.second_stage.specs.Words.{result_of};
-ghost use Rattle.translate.specs.Translated.{unsupported, start_of, answer, translated};
+ghost use Rattle.translate.specs.declared.Answer.TheVariants.{Refused};
+ghost use Rattle.translate.specs.Translated.{unsupported, refusals, first_refusal, start_of, answer, translated};
 
 use access::{Access, Machine};
-use exceptions::Exception;
+use exceptions::{Exception, Refusal};
 use hart::state::Hart;
 use rules::Kind;
-use second_stage::Reached;
 use stages::Read;
 
 #[derive(Clone, Copy)]
 pub enum Answer {
     Address(Machine),
-    Refused(u64),
+    Refused(Refusal),
     Fault(Exception),
 }
 
-// What a translation comes to before its walk: an answer with an empty list, or the access to walk for.
-#[derive(Clone, Copy)]
-pub enum Start {
-    Answered(Answer),
-    Walks(Access),
+impl From<Refusal> for Answer {
+    ghost from_gives = { λ r x. x ≡ Refused r };
+
+    fn from(refusal: Refusal) -> Answer {
+        Answer::Refused(refusal)
+    }
+}
+
+impl From<Result<Machine, Exception>> for Answer {
+    ghost from_gives = { λ end x. x ≡ answer end };
+
+    // The answer that a walk's end gives.
+    fn from(end: Result<Machine, Exception>) -> Answer {
+        match end {
+            Ok(m) => Answer::Address(m),
+            Err(f) => Answer::Fault(f),
+        }
+    }
 }
 
 #[derive(Clone, Copy)]
@@ -43,34 +55,46 @@ fn refused(kind: Kind, address: u64, width: u64) -> bool
     kind.test(fetch, !known, !known)
 }
 
-// The order of refusals, and misalignment.
-pub fn starts(h: Hart, base: u64, len: u64, kind: Kind, address: u64, width: u64) -> Start
-    ensures { result ≡ start_of h base len kind address width }
+// Whether a translation is refused, and as what.
+fn refusal(
+    h: Hart,
+    base: u64,
+    len: u64,
+    kind: Kind,
+    address: u64,
+    width: u64,
+) -> Result<(), Refusal>
+    ensures { result ≡ first_refusal (refusals h base len kind address width) }
 {
     if !h.passes() {
-        return Start::Answered(Answer::Refused(2));
+        return Err(Refusal::Hart);
     }
     if image::refused(base, len) {
-        return Start::Answered(Answer::Refused(1));
+        return Err(Refusal::Image);
     }
     if refused(kind, address, width) {
-        return Start::Answered(Answer::Refused(3));
+        return Err(Refusal::Access);
     }
-    let a = effective::access(h.context(), h.paging(), kind, address, width);
-    if access::is_misaligned(kind, address, width) {
-        return Start::Answered(Answer::Fault(a.misalignment()));
-    }
-    Start::Walks(a)
+    Ok(())
 }
 
-// The answer that a walk's end gives.
-pub fn answered(r: Reached) -> Answer
-    ensures { result ≡ answer (result_of r) }
+// What a translation comes to before its walk: the access to walk for, or an answer with an empty list.
+pub fn starts(
+    h: Hart,
+    base: u64,
+    len: u64,
+    kind: Kind,
+    address: u64,
+    width: u64,
+) -> Result<Access, Answer>
+    ensures { result ≡ start_of h base len kind address width }
 {
-    match r {
-        Reached::At(m) => Answer::Address(m),
-        Reached::Failed(f) => Answer::Fault(f),
+    refusal(h, base, len, kind, address, width)?;
+    let a = effective::access(h.context(), h.paging(), kind, address, width);
+    if access::is_misaligned(kind, address, width) {
+        return Err(Answer::Fault(a.misalignment()));
     }
+    Ok(a)
 }
 
 // The translation of an access: the hart as it was, the answer, and the entries read for it.
@@ -86,19 +110,19 @@ pub fn translate(
 {
     let s = starts(h, base, bytes.len() as u64, kind, address, width);
     match s {
-        Start::Answered(x) => Translated {
+        Err(x) => Translated {
             hart: h,
             answer: x,
             reads: walk::none(),
             count: 0,
         },
-        Start::Walks(a) => {
+        Ok(a) => {
             let w = walk::walk(base, bytes, a);
             let reads = w.reads;
             let reached = w.reached;
             Translated {
                 hart: h,
-                answer: answered(reached),
+                answer: Answer::from(reached),
                 reads,
                 count: w.count,
             }

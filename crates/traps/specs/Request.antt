@@ -1,7 +1,10 @@
 -- Refusal 4: a trap request that can't arise (document 01).
-use Rattle.std.specs.Prelude.{Bool, ◌&&◌, ◌||◌, not, ℕ, eqb, leb}
+use Rattle.std.specs.Prelude.{Bool, ◌&&◌, ◌||◌, not, ℕ, eqb, leb, Result, Ok, Err}
+use Rattle.bits.specs.Field.{pick}
 use Rattle.privilege.specs.declared.Context.{Context}
 use Rattle.exceptions.specs.declared.Exception.{Exception}
+use Rattle.exceptions.specs.declared.Refusal.{Refusal}
+use Rattle.exceptions.specs.declared.Refusal.TheVariants as refusals
 use Rattle.privilege.specs.Mode.{is_u, is_hs, is_m, is_vu, is_vs}
 
 -- an environment call: 8 to 11
@@ -44,3 +47,7 @@ wrong_flag c t =
 
 abbrev pub impossible : Context → Exception → Bool
 impossible c t = unknown t.cause || (wrong_mode c t.cause || (wrong_value t || wrong_flag c t))
+
+-- a trap request's own refusal
+abbrev pub refusal_of : Context → Exception → Result Unit Refusal
+refusal_of c t = pick (impossible c t) (Err refusals.Request) (Ok tt)

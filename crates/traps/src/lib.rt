@@ -2,9 +2,9 @@
 #![tactic(auto)]
 
 ghost use Rattle.std.specs.Prelude.{◌≡◌};
-ghost use Rattle.traps.specs.Request.{is_call, is_guest_page, unknown, wrong_mode, wrong_value, never_flagged, wrong_flag, impossible};
+ghost use Rattle.traps.specs.Request.{is_call, is_guest_page, unknown, wrong_mode, wrong_value, never_flagged, wrong_flag, impossible, refusal_of};
 
-use exceptions::Exception;
+use exceptions::{Exception, Refusal};
 use privilege::Context;
 
 fn is_call(cause: u64) -> bool
@@ -57,8 +57,18 @@ fn wrong_flag(c: Context, t: Exception) -> bool
 }
 
 // A trap request that can't arise.
-pub fn impossible(c: Context, t: Exception) -> bool
+fn impossible(c: Context, t: Exception) -> bool
     ensures { result ≡ impossible c t }
 {
     unknown(t.cause) | (wrong_mode(c, t.cause) | (wrong_value(t) | wrong_flag(c, t)))
+}
+
+// A trap request's own refusal.
+pub fn check(c: Context, t: Exception) -> Result<(), Refusal>
+    ensures { result ≡ refusal_of c t }
+{
+    if impossible(c, t) {
+        return Err(Refusal::Request);
+    }
+    Ok(())
 }

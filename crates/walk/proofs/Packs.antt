@@ -11,9 +11,6 @@ use Rattle.stages.specs.Tree.{item}
 use Rattle.stages.specs.Stages.{machine}
 use Rattle.stages.specs.Listed.{padded, read_words}
 use Rattle.stages.proofs.Words.{length-padded, length-words}
-use Rattle.second_stage.specs.declared.Reached.{Reached}
-use Rattle.second_stage.specs.declared.Reached.TheVariants.{At, Failed}
-use Rattle.second_stage.specs.Words.{reached, result_of}
 use Rattle.walk.specs.Walked.{unpack}
 
 pub unpack-words : (rs : List Read) → unpack (read_words rs) ≡ rs
@@ -67,7 +64,3 @@ anew l ws e =
 pub handed : (l : List ℕ) (n : ℕ) (rs : List Read) → length l ≡ 4 * n → length rs ≤ n → unpack (sets l 0 (read_words (padded n rs))) ≡ padded n rs
 handed l n rs e h =
     ap unpack (anew l (read_words (padded n rs)) (omega (arith, length-words (padded n rs), length-padded n rs h))) ∙ unpack-words (padded n rs)
-
-pub same-reached : (r : Reached) → reached (result_of r) ≡ r
-same-reached (At m) = refl
-same-reached (Failed f) = refl

@@ -1,15 +1,15 @@
 -- What the walk hands over: its end, and the list of reads in an array, with their count.
-use Rattle.std.specs.Prelude.{List, [], ◌∷◌, ℕ, length}
+use Rattle.std.specs.Prelude.{List, [], ◌∷◌, ℕ, length, Result}
+use Rattle.exceptions.specs.declared.Exception.{Exception}
 use Rattle.access.specs.declared.Machine.{Machine}
 use Rattle.stages.specs.declared.Read.{Read}
 use Rattle.stages.specs.Tree.{Ran, item}
-use Rattle.stages.specs.Stages.{Result, machine}
+use Rattle.stages.specs.Stages.{machine}
 use Rattle.stages.specs.Listed.{places, padded}
-use Rattle.second_stage.specs.Words.{reached}
 use Rattle.walk.specs.declared.Walked.{Walked}
 
-abbrev pub walked : Ran (Result Machine) → Walked
-walked r = record { reads = padded places r.reads; count = length r.reads; reached = reached r.end }
+abbrev pub walked : Ran (Result Machine Exception) → Walked
+walked r = record { reads = padded places r.reads; count = length r.reads; reached = r.end }
 
 -- the list that words hold, four to a read
 unfoldable pub unpack : List ℕ → List Read

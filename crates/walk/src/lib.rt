@@ -9,7 +9,7 @@ ghost use Rattle.second_stage.specs.Place.{Tables};
 ghost use Rattle.walk.specs.Walked.{unpack, walked};
 
 use access::{Access, Machine};
-use second_stage::Reached;
+use exceptions::Exception;
 use stages::{PLACES, Read};
 
 // What a walk comes to: the list of reads with their count, and its end.
@@ -17,7 +17,7 @@ use stages::{PLACES, Read};
 pub struct Walked {
     pub reads: [Read; PLACES],
     pub count: usize,
-    pub reached: Reached,
+    pub reached: Result<Machine, Exception>,
 }
 
 // A list without reads.

@@ -8,7 +8,6 @@ ghost use Rattle.window.specs.Window.{translation};
 mod thin;
 
 use hart::state::Hart;
-use image::Entry;
 use rules::Kind;
 use translate::Translated;
 
@@ -44,7 +43,7 @@ pub fn translate_in<'a>(w: Window<'a>, r: Request) -> Translated
 }
 
 // The entry at a machine address of a window.
-pub fn entry_in<'a>(w: Window<'a>, address: u64) -> Entry
+pub fn entry_in<'a>(w: Window<'a>, address: u64) -> Option<u64>
     ensures { result ≡ entry w.entry.base w.entry.bytes.now address }
 {
     image::fetch(w.base, w.bytes, address)

@@ -1,23 +1,24 @@
+use Rattle.std.specs.Prelude.{Result}
 use mathlib.Core.Path.{refl, ◌∙◌}
 use Prim.Native.Nat.{◌+◌, ◌*◌, ◌≤◌}
 use native.Mathlib.Omega.{arith}
 use lib.ListN.{length}
+use Rattle.exceptions.specs.declared.Exception.{Exception}
 use Rattle.access.specs.declared.Machine.{Machine}
 use Rattle.stages.specs.Tree.{Ran, run}
-use Rattle.stages.specs.Stages.{Result, look, walk_of}
-use Rattle.second_stage.specs.Words.{result_of}
+use Rattle.stages.specs.Stages.{look, walk_of}
 use Rattle.engine.proofs.Places.{within-reach}
 use Rattle.engine.proofs.Left.{Left, left_by}
 use Rattle.engine.proofs.Zeros.{zeroed}
 use Rattle.engine.proofs.list.Goals.{After-walk_into-w}
 use Rattle.engine.proofs.list.Goals as goal
 
-abbrev ran : After-walk_into-w → Ran (Result Machine)
+abbrev ran : After-walk_into-w → Ran (Result Machine Exception)
 ran w = let a = w.args in run (look a.base a.bytes.now) (walk_of a.base (length a.bytes.now) a.a)
 
 -- what the walk left
 left : (w : After-walk_into-w) → let a = w.args in
-    Left (ran w) a.out.now a.from w.walk_into-w.new.out w.walk_into-w.result.next (result_of w.walk_into-w.result.reached)
+    Left (ran w) a.out.now a.from w.walk_into-w.new.out w.walk_into-w.result.next w.walk_into-w.result.reached
 left w =
     let a = w.args in
     left_by (look a.base a.bytes.now) (walk_of a.base (length a.bytes.now) a.a) a.out.now a.from w.walk_into-w.ensures

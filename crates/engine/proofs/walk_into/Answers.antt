@@ -1,3 +1,4 @@
+use Rattle.std.specs.Prelude.{Ok}
 use mathlib.Core.Path.{◌≡◌, sym, ◌∙◌}
 use Prim.Native.Nat.{◌-◌, ◌<◌}
 use native.Mathlib.Omega.{arith}
@@ -7,11 +8,11 @@ use borrow.Author.Tests.{eqb-true}
 use Rattle.bits.proofs.Bools.{and_left, and_right}
 use Rattle.rules.specs.Test.{test_of}
 use Rattle.access.specs.Needs.{first_need}
-use Rattle.stages.specs.Stages.{yields, look}
-use Rattle.second_stage.specs.Words.{result_of, Sees}
+use Rattle.stages.specs.Stages.{look}
+use Rattle.second_stage.specs.Words.{Sees}
 use Rattle.second_stage.proofs.Descents.{bounds, off}
 use Rattle.engine.proofs.Walks.{Walks, Arrives, astray, start, arrives, failed, finished, has_room, outside, bad, leaf, further}
-use Rattle.engine.proofs.walk_into.Goals.{After-start-guest, After-walk-s, In-At, In-Entry}
+use Rattle.engine.proofs.walk_into.Goals.{After-start-guest, After-walk-s, In-Ok, In-Some}
 use Rattle.engine.proofs.walk_into.Goals as goal
 
 -- where the walk begins
@@ -23,23 +24,23 @@ begins s =
 
 -- after the second stage
 arrival : (s : After-walk-s) → let a = s.args in
-    Arrives (look a.base a.bytes.now) a.base (length a.bytes.now) a.a a.out.now a.from s.walk-s.new.out s.walk-s.result.next s.loop-m.left (result_of s.walk-s.result.reached)
+    Arrives (look a.base a.bytes.now) a.base (length a.bytes.now) a.a a.out.now a.from s.walk-s.new.out s.walk-s.result.next s.loop-m.left s.walk-s.result.reached
 arrival s = arrives s.loop-m.invariant s.walk-s.ensures
 
 -- at a machine address
-reached : (r : In-At) → let a = r.args in
-    Arrives (look a.base a.bytes.now) a.base (length a.bytes.now) a.a a.out.now a.from r.walk-s.new.out r.walk-s.result.next r.loop-m.left (yields r.in-At.m)
-reached r = rw r.in-At.is at (arrives r.loop-m.invariant r.walk-s.ensures)
+reached : (r : In-Ok) → let a = r.args in
+    Arrives (look a.base a.bytes.now) a.base (length a.bytes.now) a.a a.out.now a.from r.walk-s.new.out r.walk-s.result.next r.loop-m.left (Ok r.in-Ok.m)
+reached r = rw r.in-Ok.is at (arrives r.loop-m.invariant r.walk-s.ensures)
 
 -- the entry that was read, and what it is; a first-stage level was left for it
-sees : (k : In-Entry) → let a = k.args in
-    Sees (look a.base a.bytes.now) k.test-t.result 1 (k.loop-m.left - 1) a.a.address k.in-At.m k.walk-s.result.next k.walk-s.new.out k.inspect-seen.new.out k.in-Entry.j
-sees k = rw k.in-Entry.is at k.inspect-seen.ensures
+sees : (k : In-Some) → let a = k.args in
+    Sees (look a.base a.bytes.now) k.test-t.result 1 (k.loop-m.left - 1) a.a.address k.in-Ok.m k.walk-s.result.next k.walk-s.new.out k.inspect-seen.new.out k.in-Some.j
+sees k = rw k.in-Some.is at k.inspect-seen.ensures
 
-tested : (k : In-Entry) → k.test-t.result ≡ test_of (first_need k.args.a)
+tested : (k : In-Some) → k.test-t.result ≡ test_of (first_need k.args.a)
 tested k = rw k.first_need.ensures at k.test-t.ensures
 
-on : (k : In-Entry) → 0 < k.loop-m.left
+on : (k : In-Some) → 0 < k.loop-m.left
 on k = omega (arith, k.if-left-eq0.false)
 
 pub returns-then-strays : goal.returns-then-strays
@@ -66,37 +67,37 @@ pub returns-in_default : goal.returns-in_default
 returns-in_default c = rw c.in_default.is (failed (rw c.in_default.is at (arrival (goal.at.returns-in_default c).After-walk-s)))
 
 pub returns-then-left-eq0 : goal.returns-then-left-eq0
-returns-then-left-eq0 c = rw c.conclude-then-left-eq0.ensures (finished (reached (goal.at.returns-then-left-eq0 c).In-At) c.if-left-eq0.true)
+returns-then-left-eq0 c = rw c.conclude-then-left-eq0.ensures (finished (reached (goal.at.returns-then-left-eq0 c).In-Ok) c.if-left-eq0.true)
 
 pub inspect-seen-requires : goal.inspect-seen-requires
 inspect-seen-requires c =
     let on : 0 < c.loop-m.left = omega (arith, c.if-left-eq0.false) in
-    (c.requires.0, c.limit-limit.ensures, omega (arith, c.loop-m.invariant.depth, c.requires.1.first), has_room (reached (goal.at.inspect-seen-requires c).In-At) on)
+    (c.requires.0, c.limit-limit.ensures, omega (arith, c.loop-m.invariant.depth, c.requires.1.first), has_room (reached (goal.at.inspect-seen-requires c).In-Ok) on)
 
 pub returns-in_default-seen : goal.returns-in_default-seen
-returns-in_default-seen c = rw c.access_fault.ensures (outside (reached (goal.at.returns-in_default-seen c).In-At) (omega (arith, c.if-left-eq0.false)) (rw c.in_default-seen.is at c.inspect-seen.ensures))
+returns-in_default-seen c = rw c.access_fault.ensures (outside (reached (goal.at.returns-in_default-seen c).In-Ok) (omega (arith, c.if-left-eq0.false)) (rw c.in_default-seen.is at c.inspect-seen.ensures))
 
 pub overflow_add-next : goal.overflow_add-next
-overflow_add-next c = omega (arith, has_room (reached (goal.at.overflow_add-next c).In-At) (on (goal.at.overflow_add-next c).In-Entry), (arrival (goal.at.overflow_add-next c).After-walk-s).size)
+overflow_add-next c = omega (arith, has_room (reached (goal.at.overflow_add-next c).In-Ok) (on (goal.at.overflow_add-next c).In-Some), (arrival (goal.at.overflow_add-next c).After-walk-s).size)
 
 pub returns-in-Bad : goal.returns-in-Bad
 returns-in-Bad c =
-    let k = (goal.at.returns-in-Bad c).In-Entry in
-    let m = (goal.at.returns-in-Bad c).In-At in
+    let k = (goal.at.returns-in-Bad c).In-Some in
+    let m = (goal.at.returns-in-Bad c).In-Ok in
     rw c.page_fault-in-Bad.ensures (bad (reached m) (on k) (tested k) (sees k) c.in-Bad.is)
 
 pub loop-m-smaller-in-Leaf : goal.loop-m-smaller-in-Leaf
-loop-m-smaller-in-Leaf c = on (goal.at.loop-m-smaller-in-Leaf c).In-Entry
+loop-m-smaller-in-Leaf c = on (goal.at.loop-m-smaller-in-Leaf c).In-Some
 
 pub loop-m-preserved-in-Leaf : goal.loop-m-preserved-in-Leaf
 loop-m-preserved-in-Leaf c =
-    let k = (goal.at.loop-m-preserved-in-Leaf c).In-Entry in
-    let m = (goal.at.loop-m-preserved-in-Leaf c).In-At in
+    let k = (goal.at.loop-m-preserved-in-Leaf c).In-Some in
+    let m = (goal.at.loop-m-preserved-in-Leaf c).In-Ok in
     leaf (reached m) (on k) (tested k) (sees k) c.in-Leaf.is
 
 pub overflow_sub-left-in-Pointer : goal.overflow_sub-left-in-Pointer
 overflow_sub-left-in-Pointer c =
-    let k = (goal.at.overflow_sub-left-in-Pointer c).In-Entry in
+    let k = (goal.at.overflow_sub-left-in-Pointer c).In-Some in
     omega (arith, (bounds (sees k) _ (tested k) c.in-Pointer.is).0)
 
 pub index-requires : goal.index-requires
@@ -104,14 +105,14 @@ index-requires c = omega (arith, c.loop-m.invariant.depth, c.requires.1.first)
 
 pub overflow_add-guest : goal.overflow_add-guest
 overflow_add-guest c =
-    let k = (goal.at.overflow_add-guest c).In-Entry in
+    let k = (goal.at.overflow_add-guest c).In-Some in
     omega (arith, (bounds (sees k) _ (tested k) c.in-Pointer.is).1, c.index.ensures.1)
 
 pub loop-m-smaller : goal.loop-m-smaller
-loop-m-smaller c = omega (arith, on (goal.at.loop-m-smaller c).In-Entry)
+loop-m-smaller c = omega (arith, on (goal.at.loop-m-smaller c).In-Some)
 
 pub loop-m-preserved : goal.loop-m-preserved
 loop-m-preserved c =
-    let k = (goal.at.loop-m-preserved c).In-Entry in
-    let m = (goal.at.loop-m-preserved c).In-At in
+    let k = (goal.at.loop-m-preserved c).In-Some in
+    let m = (goal.at.loop-m-preserved c).In-Ok in
     further (reached m) (on k) (tested k) (sees k) c.in-Pointer.is c.index.ensures.0

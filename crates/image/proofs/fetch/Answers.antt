@@ -1,6 +1,5 @@
-use Rattle.std.proofs.Common.{sym, ap, ◌∙◌, arith}
+use Rattle.std.proofs.Common.{sym, ap, ◌∙◌, arith, Some}
 use Rattle.image.specs.Image.{entry}
-use Rattle.image.specs.declared.Entry.TheVariants.{Value}
 use Rattle.image.proofs.Tests.{within_facts}
 use Rattle.image.proofs.fetch.Goals as goal
 
@@ -12,7 +11,7 @@ load-requires c = omega (arith, within_facts _ _ _ _ (sym c.inside.ensures ∙ c
 
 pub returns-then-inside : goal.returns-then-inside
 unfolding entry
-returns-then-inside c = simp (sym c.inside.ensures ∙ c.if-inside.true) (ap Value c.load.ensures)
+returns-then-inside c = simp (sym c.inside.ensures ∙ c.if-inside.true) (ap Some c.load.ensures)
 
 pub returns : goal.returns
 unfolding entry

@@ -26,7 +26,7 @@ access-answer-requires c =
     let rest = drop hart_size a.out.now in
     let size = c.if-misfit.ensures.fits.0 in
     rw (c.copy.ensures, c.passes-passed.ensures, c.control-from.ensures, c.hart_of.ensures, c.hart_of-2.ensures)
-    (lent_length a.h.now rest size, ap passes (sym (lent_hart a.h.now rest size)))
+    (record { whole = lent_length a.h.now rest size; checked = ap passes (sym (lent_hart a.h.now rest size)) })
 
 pub returns : goal.returns
 unfolding put

@@ -7,7 +7,7 @@ pub returns-in-Address : goal.returns-in-Address
 returns-in-Address c = let a = c.args in rw (c.put_seven.ensures, c.in-Address.is) (answer-written (Answer.Address _) a.count a.out.now (omega arith))
 
 pub returns-in-Refused : goal.returns-in-Refused
-returns-in-Refused c = let a = c.args in rw (c.put_seven-in-Refused.ensures, c.in-Refused.is) (answer-written (Answer.Refused _) a.count a.out.now (omega arith))
+returns-in-Refused c = let a = c.args in rw (c.put_seven-in-Refused.ensures, c.from.ensures, c.in-Refused.is) (answer-written (Answer.Refused _) a.count a.out.now (omega arith))
 
 pub returns-in-Fault : goal.returns-in-Fault
 returns-in-Fault c =

@@ -1,13 +1,14 @@
+use Rattle.std.specs.Prelude.{Result}
 use mathlib.Core.Path.{◌≡◌, sym, ap, ◌∙◌}
 use mathlib.Core.List.{[]}
 use Prim.Native.Nat.{◌+◌, ◌-◌, ◌*◌, ◌/◌, ◌≤◌, zero-le}
 use native.Mathlib.Omega.{arith}
 use lib.ListN.{length}
+use Rattle.exceptions.specs.declared.Exception.{Exception}
 use Rattle.access.specs.declared.Machine.{Machine}
 use Rattle.stages.specs.Tree.{Ran, run}
-use Rattle.stages.specs.Stages.{Result, look, walk_of}
+use Rattle.stages.specs.Stages.{look, walk_of}
 use Rattle.stages.specs.Listed.{places}
-use Rattle.second_stage.specs.Words.{result_of}
 use Rattle.engine.proofs.Places.{enough, few}
 use Rattle.engine.proofs.Left.{Left, left_by}
 use Rattle.translate.specs.Translated.{answer}
@@ -18,23 +19,23 @@ use Rattle.listing.proofs.translate_into.Goals.{After-walk_into-w}
 use Rattle.listing.proofs.translate_into.Goals as goal
 
 -- ---- a walk
-starts-walk : (w : After-walk_into-w) → let a = w.args in Walking a.h a.base a.bytes.now a.kind a.address a.width w.in-Walks.a
+starts-walk : (w : After-walk_into-w) → let a = w.args in Walking a.h a.base a.bytes.now a.kind a.address a.width w.in-Ok.a
 starts-walk w =
     let a = w.args in
-    walking a.h a.base a.bytes.now a.kind a.address a.width _ (sym w.starts-s.ensures ∙ w.in-Walks.is)
+    walking a.h a.base a.bytes.now a.kind a.address a.width _ (sym w.starts-s.ensures ∙ w.in-Ok.is)
 
-abbrev ran : After-walk_into-w → Ran (Result Machine)
-ran w = let a = w.args in run (look a.base a.bytes.now) (walk_of a.base (length a.bytes.now) w.in-Walks.a)
+abbrev ran : After-walk_into-w → Ran (Result Machine Exception)
+ran w = let a = w.args in run (look a.base a.bytes.now) (walk_of a.base (length a.bytes.now) w.in-Ok.a)
 
 -- what the walk left
 left : (w : After-walk_into-w) → let a = w.args in
-    Left (ran w) a.out.now list_at w.walk_into-w.new.out w.walk_into-w.result.next (result_of w.walk_into-w.result.reached)
+    Left (ran w) a.out.now list_at w.walk_into-w.new.out w.walk_into-w.result.next w.walk_into-w.result.reached
 left w =
     let a = w.args in
-    left_by (look a.base a.bytes.now) (walk_of a.base (length a.bytes.now) w.in-Walks.a) a.out.now list_at w.walk_into-w.ensures
+    left_by (look a.base a.bytes.now) (walk_of a.base (length a.bytes.now) w.in-Ok.a) a.out.now list_at w.walk_into-w.ensures
 
 room : (w : After-walk_into-w) → length (ran w).reads ≤ places
-room w = let a = w.args in few w.in-Walks.a a.base (length a.bytes.now) (look a.base a.bytes.now) (starts-walk w).tables
+room w = let a = w.args in few w.in-Ok.a a.base (length a.bytes.now) (look a.base a.bytes.now) (starts-walk w).tables
 
 size : (w : After-walk_into-w) → length w.walk_into-w.new.out ≡ translation_size
 size w = (left w).size ∙ w.requires
@@ -43,43 +44,43 @@ size w = (left w).size ∙ w.requires
 pub clear-requires : goal.clear-requires
 clear-requires c =
     let a = c.args in
-    (omega arith, omega (arith, ap length c.put_answer.ensures ∙ answer-length c.in-Answered.x 0 a.out.now (omega arith)))
+    (omega arith, omega (arith, ap length c.put_answer.ensures ∙ answer-length c.in-Err.x 0 a.out.now (omega arith)))
 
 pub walk_into-w-requires : goal.walk_into-w-requires
 walk_into-w-requires c =
     let a = c.args in
-    let w = walking a.h a.base a.bytes.now a.kind a.address a.width _ (sym c.starts-s.ensures ∙ c.in-Walks.is) in
-    (w.ends, w.tables, omega (arith, enough c.in-Walks.a w.tables))
+    let w = walking a.h a.base a.bytes.now a.kind a.address a.width _ (sym c.starts-s.ensures ∙ c.in-Ok.is) in
+    (w.ends, w.tables, omega (arith, enough c.in-Ok.a w.tables))
 
 pub overflow_sub-count : goal.overflow_sub-count
 overflow_sub-count c = omega (arith, (left (goal.at.overflow_sub-count c).After-walk_into-w).next)
 
-pub put_answer-requires-in-Walks : goal.put_answer-requires-in-Walks
-put_answer-requires-in-Walks c = size (goal.at.put_answer-requires-in-Walks c).After-walk_into-w
+pub put_answer-requires-in-Ok : goal.put_answer-requires-in-Ok
+put_answer-requires-in-Ok c = size (goal.at.put_answer-requires-in-Ok c).After-walk_into-w
 
-pub clear-requires-in-Walks : goal.clear-requires-in-Walks
-clear-requires-in-Walks c =
-    let w = (goal.at.clear-requires-in-Walks c).After-walk_into-w in
-    (omega (arith, (left w).next, room w), omega (arith, ap length c.put_answer-in-Walks.ensures ∙ answer-length c.answered.result ((w.walk_into-w.result.next - list_at) / 4) w.walk_into-w.new.out (omega (arith, size w)), size w))
+pub clear-requires-in-Ok : goal.clear-requires-in-Ok
+clear-requires-in-Ok c =
+    let w = (goal.at.clear-requires-in-Ok c).After-walk_into-w in
+    (omega (arith, (left w).next, room w), omega (arith, ap length c.put_answer-in-Ok.ensures ∙ answer-length c.from.result ((w.walk_into-w.result.next - list_at) / 4) w.walk_into-w.new.out (omega (arith, size w)), size w))
 
-pub returns-in-Answered : goal.returns-in-Answered
+pub returns-in-Err : goal.returns-in-Err
 unfolding translation_words
-returns-in-Answered c =
+returns-in-Err c =
     let a = c.args in
-    let x = c.in-Answered.x in
-    rw (at_once a.h a.base a.bytes.now a.kind a.address a.width x (sym c.starts-s.ensures ∙ c.in-Answered.is), c.clear.ensures, c.put_answer.ensures)
+    let x = c.in-Err.x in
+    rw (at_once a.h a.base a.bytes.now a.kind a.address a.width x (sym c.starts-s.ensures ∙ c.in-Err.is), c.clear.ensures, c.put_answer.ensures)
     (closed x a.out.now [] c.requires zero-le)
 
-pub returns-in-Walks : goal.returns-in-Walks
+pub returns-in-Ok : goal.returns-in-Ok
 unfolding translation_words
-returns-in-Walks c =
-    let w = (goal.at.returns-in-Walks c).After-walk_into-w in
+returns-in-Ok c =
+    let w = (goal.at.returns-in-Ok c).After-walk_into-w in
     let count : (list_at + 4 * length (ran w).reads - list_at) / 4 ≡ length (ran w).reads = omega arith in
     rw (
       (starts-walk w).translates,
-      c.clear-in-Walks.ensures,
-      c.put_answer-in-Walks.ensures,
-      c.answered.ensures,
+      c.clear-in-Ok.ensures,
+      c.put_answer-in-Ok.ensures,
+      c.from.ensures,
       (left w).end,
       (left w).words,
       (left w).next,

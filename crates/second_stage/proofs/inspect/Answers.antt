@@ -1,14 +1,14 @@
 use mathlib.Core.Path.{refl, sym, ◌∙◌}
 use Rattle.second_stage.proofs.inspect.Goals as goal
 
-pub returns-in_default : goal.returns-in_default
-returns-in_default c = (sym c.fetch_below.ensures ∙ c.in_default.is, refl)
+pub returns-in_err-e : goal.returns-in_err-e
+returns-in_err-e c = rw c.from_residual.ensures (sym c.fetch_below.ensures ∙ c.in_err-e.was, refl)
 
 pub returns : goal.returns
 returns c =
     record {
-      value = c.in-Value.e;
-      found = sym c.fetch_below.ensures ∙ c.in-Value.is;
+      value = c.in_ok-e.e;
+      found = sym c.fetch_below.ensures ∙ c.in_ok-e.was;
       listed = c.put.ensures;
       judgement = c.judge.ensures;
     }

@@ -3,14 +3,14 @@ use native.Mathlib.Omega.{arith}
 use Rattle.stages.specs.Stages.{look, machine}
 use Rattle.second_stage.specs.Words.{Sees}
 use Rattle.second_stage.proofs.Descents.{off, too_large, from-root, outside, bad, leaf, bounds, further}
-use Rattle.second_stage.proofs.walk.Goals.{In-Entry}
+use Rattle.second_stage.proofs.walk.Goals.{In-Some}
 use Rattle.second_stage.proofs.walk.Goals as goal
 
 -- the entry that was read, and what it is
-sees : (k : In-Entry) → let a = k.args in
+sees : (k : In-Some) → let a = k.args in
     let l = k.loop-j in
-    Sees (look a.base a.bytes.now) k.test-t.result 2 l.level a.guest.0 (machine l.at) l.next l.out k.inspect-seen.new.out k.in-Entry.j
-sees k = rw k.in-Entry.is at k.inspect-seen.ensures
+    Sees (look a.base a.bytes.now) k.test-t.result 2 l.level a.guest.0 (machine l.at) l.next l.out k.inspect-seen.new.out k.in-Some.j
+sees k = rw k.in-Some.is at k.inspect-seen.ensures
 
 pub returns-then-levels-eq0 : goal.returns-then-levels-eq0
 returns-then-levels-eq0 c =
@@ -43,22 +43,22 @@ pub overflow_add-next : goal.overflow_add-next
 overflow_add-next c = omega (arith, c.loop-j.invariant.room, c.loop-j.invariant.size)
 
 pub returns-in-Bad : goal.returns-in-Bad
-returns-in-Bad c = rw c.fault-in-Bad.ensures (bad c.loop-j.invariant c.test-t.ensures (sees (goal.at.returns-in-Bad c).In-Entry) c.in-Bad.is)
+returns-in-Bad c = rw c.fault-in-Bad.ensures (bad c.loop-j.invariant c.test-t.ensures (sees (goal.at.returns-in-Bad c).In-Some) c.in-Bad.is)
 
 pub returns-in-Leaf : goal.returns-in-Leaf
-returns-in-Leaf c = leaf c.loop-j.invariant c.test-t.ensures (sees (goal.at.returns-in-Leaf c).In-Entry) c.in-Leaf.is
+returns-in-Leaf c = leaf c.loop-j.invariant c.test-t.ensures (sees (goal.at.returns-in-Leaf c).In-Some) c.in-Leaf.is
 
 pub overflow_sub-level-in-Pointer : goal.overflow_sub-level-in-Pointer
-overflow_sub-level-in-Pointer c = omega (arith, (bounds (sees (goal.at.overflow_sub-level-in-Pointer c).In-Entry) _ c.test-t.ensures c.in-Pointer.is).0)
+overflow_sub-level-in-Pointer c = omega (arith, (bounds (sees (goal.at.overflow_sub-level-in-Pointer c).In-Some) _ c.test-t.ensures c.in-Pointer.is).0)
 
 pub index-requires : goal.index-requires
 index-requires c = omega (arith, c.loop-j.invariant.under, c.requires.2.second)
 
 pub overflow_add-at-in-Pointer : goal.overflow_add-at-in-Pointer
-overflow_add-at-in-Pointer c = omega (arith, (bounds (sees (goal.at.overflow_add-at-in-Pointer c).In-Entry) _ c.test-t.ensures c.in-Pointer.is).1, c.index.ensures.1)
+overflow_add-at-in-Pointer c = omega (arith, (bounds (sees (goal.at.overflow_add-at-in-Pointer c).In-Some) _ c.test-t.ensures c.in-Pointer.is).1, c.index.ensures.1)
 
 pub loop-j-smaller : goal.loop-j-smaller
-loop-j-smaller c = omega (arith, (bounds (sees (goal.at.loop-j-smaller c).In-Entry) _ c.test-t.ensures c.in-Pointer.is).0)
+loop-j-smaller c = omega (arith, (bounds (sees (goal.at.loop-j-smaller c).In-Some) _ c.test-t.ensures c.in-Pointer.is).0)
 
 pub loop-j-preserved : goal.loop-j-preserved
-loop-j-preserved c = further c.loop-j.invariant c.test-t.ensures (sees (goal.at.loop-j-preserved c).In-Entry) c.in-Pointer.is c.index.ensures.0
+loop-j-preserved c = further c.loop-j.invariant c.test-t.ensures (sees (goal.at.loop-j-preserved c).In-Some) c.in-Pointer.is c.index.ensures.0

@@ -4,7 +4,7 @@ use mathlib.Core.List.{◌++◌}
 use native.Mathlib.Omega.{arith}
 use lib.ListN.{replicate, get_or}
 use borrow.Author.Rules.{rules}
-use Rattle.table.specs.Search.{none, row_at, halving}
+use Rattle.table.specs.Search.{no_row, row_at, halving}
 use Rattle.table.proofs.Halving.{middle}
 use Rattle.table.proofs.Going.{room, over, hit, on-above, on_below, two_looks}
 use Rattle.table.proofs.Parts.{part_at}
@@ -12,7 +12,7 @@ use Rattle.table.proofs.halve.Goals.{After-row-1}
 use Rattle.table.proofs.halve.Goals as goal
 
 -- the row looked at, where it stands in the table
-looked-at : (c : After-row-1) → let a = c.args in let m = middle c.loop-low.low c.loop-low.high in row_at (replicate a.first none ++ a.rows) m ≡ get_or a.rows (m - a.first) none
+looked-at : (c : After-row-1) → let a = c.args in let m = middle c.loop-low.low c.loop-low.high in row_at (replicate a.first no_row ++ a.rows) m ≡ get_or a.rows (m - a.first) no_row
 looked-at c =
     let a = c.args in
     part_at a.rows a.first (middle c.loop-low.low c.loop-low.high) (omega arith)
@@ -23,7 +23,7 @@ loop-low-init c =
       omega arith,
       omega arith,
       search rules,
-      record { at_most = omega arith; long = refl; covered = omega arith; told = two_looks 20 a.half (halving 6 (replicate a.first none ++ a.rows) a.n a.first a.end) },
+      record { at_most = omega arith; long = refl; covered = omega arith; told = two_looks 20 a.half (halving 6 (replicate a.first no_row ++ a.rows) a.n a.first a.end) },
     )
 
 pub offset_bounds-places-looked : goal.offset_bounds-places-looked

@@ -22,12 +22,12 @@ returns-then-number_of-n-3 c = two_down _ _ 21 41 31 _ (goes-up (goal.at.returns
 
 pub returns-then-number_of-n-4 : goal.returns-then-number_of-n-4
 returns-then-number_of-n-4 c =
-    rw (c.halve.ensures, c.highest.ensures)
+    rw (c.halve.ensures, c.quarter.ensures)
     (quartered _ _ 21 41 31 9 32 _ (goes-up (goal.at.returns-then-number_of-n-4 c).Then-number_of-n-2) (above 6 _ _ 21 41 (omega arith) (omega (arith, c.number_of-then-number_of-n-2-2.ensures))))
 
 pub returns-then-number_of-n-2 : goal.returns-then-number_of-n-2
 returns-then-number_of-n-2 c =
-    rw (c.halve-then-number_of-n-2.ensures, c.upper.ensures)
+    rw (c.halve-then-number_of-n-2.ensures, c.quarter-then-number_of-n-2.ensures)
     (quartered _ _ 21 41 31 10 21 _ (goes-up (goal.at.returns-then-number_of-n-2 c).Then-number_of-n-2) (below 6 _ _ 21 41 (omega arith) (omega (arith, c.number_of-then-number_of-n-2-2.ensures))))
 
 pub returns-then-number_of-n-5 : goal.returns-then-number_of-n-5
@@ -35,10 +35,10 @@ returns-then-number_of-n-5 c = two_down _ _ 0 20 10 _ (goes_down (goal.at.return
 
 pub returns-then-number_of-n-6 : goal.returns-then-number_of-n-6
 returns-then-number_of-n-6 c =
-    rw (c.halve-then-number_of-n-6.ensures, c.lower.ensures)
+    rw (c.halve-then-number_of-n-6.ensures, c.quarter-then-number_of-n-6.ensures)
     (quartered _ _ 0 20 10 9 11 _ (goes_down (goal.at.returns-then-number_of-n-6 c).Else-number_of-n-2) (above 6 _ _ 0 20 (omega arith) (omega (arith, c.number_of-4.ensures))))
 
 pub returns : goal.returns
 returns c =
-    rw (c.halve-2.ensures, c.lowest.ensures)
+    rw (c.halve-2.ensures, c.quarter-2.ensures)
     (quartered _ _ 0 20 10 10 0 _ (goes_down (goal.at.returns c).Else-number_of-n-2) (below 6 _ _ 0 20 (omega arith) (omega (arith, c.number_of-4.ensures))))

@@ -1,13 +1,12 @@
-use mathlib.Core.Path.{refl, sym, ap, ◌∙◌}
+use mathlib.Core.Path.{refl, ap, ◌∙◌}
 use native.Mathlib.Omega.{arith}
 use lib.ListN.{length}
 use Rattle.stages.specs.Tree.{run}
 use Rattle.stages.specs.Stages.{look, walk_of}
-use Rattle.second_stage.specs.Words.{reached}
 use Rattle.engine.proofs.Places.{enough, few}
 use Rattle.stages.specs.Listed.{places}
 use Rattle.walk.specs.Walked.{unpack}
-use Rattle.walk.proofs.Packs.{handed, same-reached}
+use Rattle.walk.proofs.Packs.{handed}
 use Rattle.walk.proofs.walk.Goals as goal
 
 pub list-w-requires : goal.list-w-requires
@@ -23,5 +22,4 @@ returns c =
     let R = run (look a.base a.bytes.now) (walk_of a.base (length a.bytes.now) a.a) in
     let room = few a.a a.base (length a.bytes.now) (look a.base a.bytes.now) p.1 in
     let rs = c.pack-reads.ensures ∙ ap unpack w.ensures.words ∙ handed _ places R.reads refl room in
-    let end = sym (same-reached w.result.reached) ∙ ap reached w.ensures.end in
-    rw (rs, w.ensures.count, end)
+    rw (rs, w.ensures.count, w.ensures.end)

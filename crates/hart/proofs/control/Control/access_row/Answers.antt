@@ -5,25 +5,25 @@ use Rattle.table.specs.declared.Row.{Row}
 use Rattle.table.specs.Table.{reached}
 use Rattle.hart.specs.Access.{access_row}
 use Rattle.hart.specs.Lent.{on}
-use Rattle.hart.proofs.Stopped.{goes-answer, halts_answer}
+use Rattle.hart.proofs.Stopped.{goes, halts}
 use Rattle.hart.proofs.control.Control.access_row.Goals as goal
 
 pub goes-requires : goal.goes-requires
 goes-requires c =
     let a = c.args in
-    rw c.reach-to.ensures (reaches-home a.place (eqb a.self.v 1), reaches-shift a.place (eqb a.self.v 1), c.requires.2)
+    rw c.reach-to.ensures (record { home = reaches-home a.place (eqb a.self.v 1); shift = reaches-shift a.place (eqb a.self.v 1) })
 
-pub returns-in-Goes : goal.returns-in-Goes
+pub returns-in-Ok : goal.returns-in-Ok
 unfolding access_row
-returns-in-Goes c =
+returns-in-Ok c =
     let a = c.args in
-    let m : a.row.mask ≡ (reached (eqb a.self.v 1) (at a.place)).writes = ap (λ (r : Row). r.mask) c.requires.1 ∙ sym (reaches-writes a.place (eqb a.self.v 1)) in
+    let m : a.row.mask ≡ (reached (eqb a.self.v 1) (at a.place)).writes = ap (λ (r : Row). r.mask) c.requires.stands ∙ sym (reaches-writes a.place (eqb a.self.v 1)) in
     rw (c.reach-to.ensures, m) at c.goes.ensures
-    ∙ goes-answer _ _ _ _ _ _ (rw (c.verdict-verdict.ensures, c.context.ensures) at (c.stops-stop.ensures (on a.self a.regs.now) c.requires.3)) c.in-Goes.is
+    ∙ goes _ _ _ _ _ _ (rw (c.verdict-verdict.ensures, c.context.ensures) at c.in-Ok.ensures (on a.self a.regs.now) c.requires.checked)
 
-pub returns-in-Halts : goal.returns-in-Halts
+pub returns-in-Err : goal.returns-in-Err
 unfolding access_row
-returns-in-Halts c =
+returns-in-Err c =
     let a = c.args in
     c.answer_halt.ensures
-    ∙ halts_answer _ _ _ _ _ _ (rw (c.verdict-verdict.ensures, c.context.ensures) at (c.stops-stop.ensures (on a.self a.regs.now) c.requires.3)) c.in-Halts.is
+    ∙ halts _ _ _ _ _ _ (rw (c.verdict-verdict.ensures, c.context.ensures) at c.in-Err.ensures (on a.self a.regs.now) c.requires.checked)

@@ -1,7 +1,7 @@
 use Rattle.hart.proofs.control.Control.halt.Goals as goal
 
-pub returns-then-refuses : goal.returns-then-refuses
-returns-then-refuses c = rw c.if-refuses.true
+pub returns-in-Refuses : goal.returns-in-Refuses
+returns-in-Refuses c = rw c.in-Refuses.is
 
-pub returns : goal.returns
-returns c = rw c.if-refuses.false (rw c.plain.ensures at c.take_trap.ensures)
+pub returns-in-Raises : goal.returns-in-Raises
+returns-in-Raises c = rw c.in-Raises.is (rw c.plain.ensures at c.take_trap.ensures)

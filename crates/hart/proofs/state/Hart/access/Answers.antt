@@ -1,8 +1,7 @@
-use Rattle.std.proofs.Common.{rules}
 use Rattle.hart.proofs.state.Hart.access.Goals as goal
 
-pub access-a-requires : goal.access-a-requires
-access-a-requires c = (search rules, rw c.control.ensures c.passes-passed.ensures)
+pub access-a-requires-clause-checked : goal.access-a-requires-clause-checked
+access-a-requires-clause-checked c = rw c.control.ensures c.passes-passed.ensures
 
 pub returns : goal.returns
 returns c = rw c.on.ensures (rw c.control.ensures at c.access-a.ensures)

@@ -1,11 +1,9 @@
-use Rattle.hart.specs.Interrupt.{interrupt}
-use Rattle.hart.proofs.Stopped.{goes, halts}
+use Rattle.std.proofs.Common.{rules}
+use Rattle.interrupts.specs.Interrupts.{chosen}
+use Rattle.hart.specs.Hart.{context, lines}
+use Rattle.hart.specs.Interrupt.{taking, interrupt}
 use Rattle.hart.proofs.state.Hart.interrupt.Goals as goal
 
-pub returns-in-Goes : goal.returns-in-Goes
+pub returns : goal.returns
 unfolding interrupt
-returns-in-Goes c = rw (c.take_interrupt.ensures, c.choose-due.ensures, c.lines.ensures, c.context.ensures) (goes _ _ _ _ _ c.stops-stop.ensures c.in-Goes.is)
-
-pub returns-in-Halts : goal.returns-in-Halts
-unfolding interrupt
-returns-in-Halts c = rw c.halt.ensures (halts _ _ _ _ _ c.stops-stop.ensures c.in-Halts.is)
+returns c = let h = c.args.self in c.settle.ensures (taking h (chosen (context h) (lines h))) (λ s e. search rules)

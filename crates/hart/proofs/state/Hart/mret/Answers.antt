@@ -1,11 +1,8 @@
-use Rattle.hart.specs.Return.{mret}
-use Rattle.hart.proofs.Stopped.{goes, halts}
+use Rattle.std.proofs.Common.{rules}
+use Rattle.hart.specs.Event.{done}
+use Rattle.hart.specs.Return.{returned_m, mret}
 use Rattle.hart.proofs.state.Hart.mret.Goals as goal
 
-pub returns-in-Goes : goal.returns-in-Goes
+pub returns : goal.returns
 unfolding mret
-returns-in-Goes c = rw c.return_m.ensures (goes _ _ _ _ _ (rw (c.mret.ensures, c.context.ensures) at c.stops-stop.ensures) c.in-Goes.is)
-
-pub returns-in-Halts : goal.returns-in-Halts
-unfolding mret
-returns-in-Halts c = rw c.halt.ensures (halts _ _ _ _ _ (rw (c.mret.ensures, c.context.ensures) at c.stops-stop.ensures) c.in-Halts.is)
+returns c = rw (c.mret.ensures, c.context.ensures) at c.settle.ensures (done (returned_m c.args.self)) (λ s e. search rules)

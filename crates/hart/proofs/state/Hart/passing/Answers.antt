@@ -1,8 +1,6 @@
-use Rattle.std.proofs.Common.{◌∙◌, rules}
+use Rattle.std.proofs.Common.{rules}
+use Rattle.hart.specs.Event.{done, moved}
 use Rattle.hart.proofs.state.Hart.passing.Goals as goal
 
-pub passing-e-requires : goal.passing-e-requires
-passing-e-requires c = (search rules, rw c.control.ensures c.passes-passed.ensures)
-
 pub returns : goal.returns
-returns c = c.on.ensures ∙ rw c.control.ensures at c.passing-e.ensures
+returns c = c.settle.ensures (done (moved c.args.self)) (λ s e. search rules)

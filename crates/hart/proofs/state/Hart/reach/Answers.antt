@@ -4,21 +4,21 @@ use Rattle.hart.proofs.state.Hart.reach.Goals as goal
 
 pub walk-requires : goal.walk-requires
 walk-requires c =
-    let own = c.refusal-own in
+    let own = c.check-own in
     let h = c.args.self in
-    sym own.ensures ∙ goes_own h own.result c.hypervisor_access.result (sym c.stops-stop.ensures ∙ c.in-Goes.is)
+    sym own.ensures ∙ goes_own h own.result c.hypervisor_access.result (c.in-Ok.ensures h c.passes.ensures)
 
-pub returns-in-Goes : goal.returns-in-Goes
-returns-in-Goes c =
+pub returns-in-Ok : goal.returns-in-Ok
+returns-in-Ok c =
     let a = c.args in
     let here = c.context-c.ensures in
-    let stop = rw (c.refusal-own.ensures, c.hypervisor_access.ensures, here) at c.stops-stop.ensures in
+    let stop = rw (c.check-own.ensures, c.hypervisor_access.ensures, here) at c.in-Ok.ensures c.args.self c.passes.ensures in
     let walk = rw (c.paging.ensures, here) at c.walk.ensures in
-    c.arrive.ensures ∙ goes-reach a.self a.o a.base a.bytes.now a.width a.address a.word stop walk c.in-Goes.is
+    c.arrive.ensures ∙ goes-reach a.self a.o a.base a.bytes.now a.width a.address a.word stop walk
 
-pub returns-in-Halts : goal.returns-in-Halts
-returns-in-Halts c =
+pub returns-in-Err : goal.returns-in-Err
+returns-in-Err c =
     let a = c.args in
     let here = c.context-c.ensures in
-    let stop = rw (c.refusal-own.ensures, c.hypervisor_access.ensures, here) at c.stops-stop.ensures in
-    rw (c.unwalked.ensures, c.halt.ensures) (halts_reach a.self a.o a.base a.bytes.now a.width a.address a.word stop c.in-Halts.is)
+    let stop = rw (c.check-own.ensures, c.hypervisor_access.ensures, here) at c.in-Err.ensures c.args.self c.passes.ensures in
+    rw (c.unwalked.ensures, c.halt.ensures) (halts_reach a.self a.o a.base a.bytes.now a.width a.address a.word stop)

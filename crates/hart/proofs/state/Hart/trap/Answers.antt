@@ -3,4 +3,4 @@ use Rattle.hart.proofs.state.Hart.trap.Goals as goal
 
 pub returns : goal.returns
 unfolding trap
-returns c = rw (c.trapping.ensures, c.select-own.ensures, c.impossible.ensures, c.context.ensures)
+returns c = rw (c.trapping.ensures, c.check.ensures, c.context.ensures)

@@ -1,8 +1,6 @@
-use Rattle.hart.proofs.Stopped.{goes, halts}
+use Rattle.std.proofs.Common.{rules}
+use Rattle.hart.specs.Event.{trapped}
 use Rattle.hart.proofs.state.Hart.trapping.Goals as goal
 
-pub returns-in-Goes : goal.returns-in-Goes
-returns-in-Goes c = rw c.take_trap.ensures (goes _ _ _ _ _ c.stops-stop.ensures c.in-Goes.is)
-
-pub returns-in-Halts : goal.returns-in-Halts
-returns-in-Halts c = rw c.halt.ensures (halts _ _ _ _ _ c.stops-stop.ensures c.in-Halts.is)
+pub returns : goal.returns
+returns c = c.settle.ensures (trapped c.args.self c.args.t) (λ s e. search rules)

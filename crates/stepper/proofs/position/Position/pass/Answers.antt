@@ -4,7 +4,7 @@ use Rattle.stepper.proofs.position.Position.pass.Goals as goal
 
 pub returns-then-not-self : goal.returns-then-not-self
 unfolding passed
-returns-then-not-self c = rw (c.answered.ensures, c.conclude-reached.ensures, not-true c.args.self.entry c.if-not-self.true)
+returns-then-not-self c = rw (c.from.ensures, c.conclude.ensures, not-true c.args.self.entry c.if-not-self.true)
 
 pub returns : goal.returns
 unfolding passed

@@ -1,7 +1,7 @@
 use mathlib.Core.Path.{sym, ap, ◌∙◌}
 use mathlib.Core.Bool.{not}
 use Rattle.hypervisor.specs.Hypervisor.{refusal_of}
-use Rattle.hypervisor.proofs.Operation.refusal.Goals as goal
+use Rattle.hypervisor.proofs.Operation.check.Goals as goal
 
 pub returns-then-refused : goal.returns-then-refused
 unfolding refusal_of
