@@ -3,14 +3,10 @@ use Rattle.std.specs.Prelude.{Bool, true, false}
 use Rattle.rules.specs.declared.Kind.{Kind}
 use Rattle.rules.specs.declared.Kind.TheVariants.{Load}
 use Rattle.rules.specs.declared.Right.{Right}
-use Rattle.rules.specs.declared.Right.TheVariants.{Read, Write, Execute}
+use Rattle.rules.specs.declared.Right.TheVariants.{Read}
 use Rattle.rules.specs.declared.Need.{Need}
 use Rattle.rules.specs.Kind.{by}
 use Rattle.access.specs.declared.Access.{Access}
-
--- "Loads need R, or X with MXR; stores need W, fetches X.": the right that is a kind's own (`granted` of rules says what grants it)
-abbrev pub right_of : Kind → Right
-right_of kind = by kind Execute Read Write
 
 -- what a kind of access needs that asks for a right, for a user or not, with the SUM and MXR that count
 abbrev pub need_of : Kind → Right → (user sum mxr : Bool) → Need

@@ -4,7 +4,7 @@
 ghost use Rattle.std.specs.Prelude.{◌≡◌, true};
 ghost use Rattle.rules.specs.Kind.{by};
 ghost use Rattle.access.specs.Widths.{known, misaligned};
-ghost use Rattle.access.specs.Needs.{right_of, need_of, first_need, second_need, entry_need};
+ghost use Rattle.access.specs.Needs.{need_of, first_need, second_need, entry_need};
 ghost use Rattle.access.specs.Faults.{raised, misalignment, access_fault, page_fault, guest_page_fault, entry_fault};
 
 use exceptions::Exception;
@@ -56,29 +56,7 @@ pub fn is_misaligned(kind: Kind, address: u64, width: u64) -> bool
     ensures { result ≡ misaligned kind address width }
 {
     let t = address & (width - 1) != 0;
-    kind.test(false, t, t)
-}
-
-// The cause that is a kind's own.
-fn cause(kind: Kind, fetch: u64, load: u64, store: u64) -> u64
-    ensures { result ≡ by kind fetch load store }
-{
-    match kind {
-        Kind::Fetch => fetch,
-        Kind::Load => load,
-        Kind::Store => store,
-    }
-}
-
-// The right that is a kind's own.
-pub fn right(kind: Kind) -> Right
-    ensures { result ≡ right_of kind }
-{
-    match kind {
-        Kind::Fetch => Right::Execute,
-        Kind::Load => Right::Read,
-        Kind::Store => Right::Write,
-    }
+    kind.by(false, t, t)
 }
 
 // What a kind of access asks of a leaf.
@@ -86,11 +64,11 @@ fn need(kind: Kind, right: Right, user: bool, sum: bool, mxr: bool) -> Need
     ensures { result ≡ need_of kind right user sum mxr }
 {
     Need {
-        right: right,
-        fetch: kind.test(true, false, false),
-        user: user,
-        sum: sum,
-        mxr: mxr,
+        right,
+        fetch: matches!(kind, Kind::Fetch),
+        user,
+        sum,
+        mxr,
     }
 }
 
@@ -99,9 +77,8 @@ impl Access {
     fn raise(self, fetch: u64, load: u64, store: u64, value2: u64) -> Exception
         ensures { result ≡ raised self (by self.kind fetch load store) value2 0 }
     {
-        let kind = self.kind;
         Exception {
-            cause: cause(kind, fetch, load, store),
+            cause: self.kind.by(fetch, load, store),
             value: self.address,
             value2,
             word: 0,
@@ -147,18 +124,14 @@ impl Access {
     pub fn first_need(self) -> Need
         ensures { result ≡ first_need self }
     {
-        let kind = self.kind;
-        let right = self.right;
-        need(kind, right, self.user, self.sum, self.mxr)
+        need(self.kind, self.right, self.user, self.sum, self.mxr)
     }
 
     // What the access asks of the second stage.
     pub fn second_need(self) -> Need
         ensures { result ≡ second_need self }
     {
-        let kind = self.kind;
-        let right = self.right;
-        need(kind, right, true, false, self.mmxr)
+        need(self.kind, self.right, true, false, self.mmxr)
     }
 }
 

@@ -9,7 +9,7 @@ use Rattle.rules.specs.declared.Right.{Right}
 use Rattle.rules.specs.Kind.{by}
 use Rattle.access.specs.declared.Access.{Access}
 use Rattle.access.specs.declared.Root.{Root}
-use Rattle.access.specs.Needs.{right_of}
+use Rattle.rules.specs.Right.{right_of}
 use Rattle.effective.specs.declared.Paging.{Paging}
 use Rattle.effective.specs.declared.EffectiveMode.{EffectiveMode}
 

@@ -29,7 +29,7 @@ fn effective_mode(c: Context, kind: Kind) -> EffectiveMode
     ensures { result ≡ effective c kind }
 {
     let status = c.mstatus;
-    let data = kind.test(false, true, true);
+    let data = kind.by(false, true, true);
     if c.is_m() & (fields::MPRV.get(status) == 1) & data {
         let mpp = fields::MPP.get(status);
         return EffectiveMode {
@@ -117,15 +117,15 @@ fn in_mode(
     let own = bits::select(m.v, p.vsstatus, status);
     let mmxr = fields::MXR.get(status) == 1;
     Access {
-        kind: kind,
-        right: right,
-        address: address,
-        width: width,
+        kind,
+        right,
+        address,
+        width,
         v: m.v,
         user: m.privilege == 0,
         sum: fields::SUM.get(own) == 1,
         mxr: (fields::MXR.get(own) == 1) | mmxr,
-        mmxr: mmxr,
+        mmxr,
         first: first(p, m),
         second: second(p, m),
     }
@@ -140,7 +140,7 @@ pub fn access(c: Context, p: Paging, kind: Kind, address: u64, width: u64) -> Ac
         p,
         effective_mode(c, kind),
         kind,
-        access::right(kind),
+        Right::from(kind),
         address,
         width,
     )

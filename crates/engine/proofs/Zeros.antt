@@ -1,11 +1,10 @@
 -- The list's words and the zeros behind them. Assumes nothing.
 use mathlib.Core.Path.{◌≡◌}
 use mathlib.Core.List.{List, [], ◌∷◌, ◌++◌}
-use Prim.Native.Nat.{ℕ, suc, ◌+◌, ◌-◌, ◌*◌, ◌≤◌}
+use Prim.Native.Nat.{ℕ, suc, ◌+◌, ◌-◌, ◌*◌}
 use native.Mathlib.Nat.{add-zero, add-suc, suc-add}
 use native.Mathlib.Omega.{arith}
-use native.Mathlib.Numerals.{add-one}
-use lib.ListN.{length, replicate, set}
+use lib.ListN.{length, replicate}
 use lib.Seq.{sets}
 use Rattle.stages.specs.declared.Read.{Read}
 use Rattle.stages.specs.Listed.{unused, padded, read_words}
@@ -22,12 +21,3 @@ pub zeroed : (l : List ℕ) (from n end : ℕ) (rs : List Read) → end ≡ from
 zeroed l from n end rs e =
     let d : end - (from + 4 * length rs) ≡ 4 * (n - length rs) = omega arith in
     rw (d, words_append rs (unused (n - length rs)), words-unused (n - length rs), ← length-words rs) (sets_append l from (read_words rs) (replicate (4 * (n - length rs)) 0))
-
--- one zero stored: what is left to store
-pub zero-stored : (out : List ℕ) (i end : ℕ) (whole : List ℕ) → suc i ≤ end → sets out i (replicate (end - i) 0) ≡ whole → sets (set out i 0) (i + 1) (replicate (end - (i + 1)) 0) ≡ whole
-zero-stored out i end whole h e =
-    let d : end - i ≡ suc (end - (i + 1)) = omega arith in
-    rw (add-one i) (rw (d, add-one i) at e)
-
-pub zeros_all : (out : List ℕ) (i end : ℕ) (whole : List ℕ) → end ≤ i → sets out i (replicate (end - i) 0) ≡ whole → out ≡ whole
-zeros_all out i end whole h e = let d : end - i ≡ 0 = omega arith in rw d at e

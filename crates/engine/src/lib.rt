@@ -12,6 +12,7 @@ ghost use Rattle.engine.specs.Written.{Written};
 
 use access::{Access, Guest, Machine};
 use exceptions::Exception;
+use image::Image;
 use rules::Judgement;
 use second_stage::{Progress, passed};
 
@@ -60,12 +61,13 @@ pub fn conclude(base: u64, len: u64, a: Access, m: Machine) -> Result<Machine, E
 }
 
 // The walk of an access; its reads go into out, from an index on.
-pub fn walk_into(base: u64, bytes: &[u8], a: Access, from: usize, out: &mut [u64]) -> Progress
-    requires { (base + length bytes.now ≤ 2 ^ 56) × Tables a × (from + 4 * reach a a.first.levels ≤ length out.old) }
-    ensures { onto out.new result.next result.reached ≡ into (look base bytes.now) (walk_of base (length bytes.now) a) out.old from }
+pub fn walk_into<'a>(image: Image<'a>, a: Access, from: usize, out: &mut [u64]) -> Progress
+    requires tables { Tables a }
+    requires room { from + 4 * reach a a.first.levels ≤ length out.old }
+    ensures { let base = image.entry.base in let bytes = image.entry.bytes.now in onto out.new result.next result.reached ≡ into (look base bytes) (walk_of base (length bytes) a) out.old from }
 {
-    let len = bytes.len() as u64;
-    let limit = image::limit(len);
+    let base = image.base;
+    let len = image.bytes.len() as u64;
     let address = a.address;
     let tables = a.first;
     let mut next = from;
@@ -87,7 +89,7 @@ pub fn walk_into(base: u64, bytes: &[u8], a: Access, from: usize, out: &mut [u64
     }
     let t = a.first_need().test();
     loop {
-        let s = second_stage::walk(base, limit, bytes, a, left, guest, next, &mut *out);
+        let s = second_stage::walk(image, a, left, guest, next, &mut *out);
         next = s.next;
         let reached = s.reached;
         let Ok(m) = reached else {
@@ -100,9 +102,7 @@ pub fn walk_into(base: u64, bytes: &[u8], a: Access, from: usize, out: &mut [u64
             };
         }
         left = left - 1;
-        let seen = second_stage::inspect(
-            base, limit, bytes, t, 1, left, address, m, next, &mut *out,
-        );
+        let seen = second_stage::inspect(image, t, 1, left, address, m, next, &mut *out);
         let Some(j) = seen else {
             return Progress {
                 next,
@@ -130,29 +130,21 @@ pub fn walk_into(base: u64, bytes: &[u8], a: Access, from: usize, out: &mut [u64
 
 // Zeros from an index up to another.
 pub fn clear(from: usize, end: usize, out: &mut [u64])
-    requires { (from ≤ end) × (end ≤ length out.old) }
+    requires order { from ≤ end }
+    requires fits { end ≤ length out.old }
     ensures { out.new ≡ sets out.old from (replicate (end - from) 0) }
 {
-    let mut i = from;
-    while i < end {
-        out[i] = 0;
-        i += 1;
-    }
+    out[from..end].fill(0);
 }
 
 // The walk of an access over an image, its list written into so many places of out, four words each, from an index on.
-pub fn list(
-    base: u64,
-    bytes: &[u8],
-    a: Access,
-    places: usize,
-    from: usize,
-    out: &mut [u64],
-) -> Listed
-    requires { (base + length bytes.now ≤ 2 ^ 56) × Tables a × (reach a a.first.levels ≤ places) × (from + 4 * places ≤ length out.old) }
-    ensures { Written (run (look base bytes.now) (walk_of base (length bytes.now) a)) places from out.old out.new result }
+pub fn list<'a>(image: Image<'a>, a: Access, places: usize, from: usize, out: &mut [u64]) -> Listed
+    requires tables { Tables a }
+    requires enough { reach a a.first.levels ≤ places }
+    requires room { from + 4 * places ≤ length out.old }
+    ensures { let base = image.entry.base in let bytes = image.entry.bytes.now in Written (run (look base bytes) (walk_of base (length bytes) a)) places from out.old out.new result }
 {
-    let w = walk_into(base, bytes, a, from, &mut *out);
+    let w = walk_into(image, a, from, &mut *out);
     let next = w.next;
     let reached = w.reached;
     clear(next, from + 4 * places, &mut *out);

@@ -12,7 +12,7 @@ use Rattle.translate.specs.Translated.{translated}
 use Rattle.layout.specs.Layout.{hart_of, step_size, step_words, access_size, access_words}
 use Rattle.layout.specs.Taken.{put}
 use Rattle.listing.specs.Listing.{translation_size, translation_words}
-use Rattle.listing.specs.Taken.{put_kind, kind_of}
+use Rattle.listing.specs.Taken.{put_kind}
 
 -- an event on a hart's words
 abbrev pub on_step : (Hart → Step) → (h out : List ℕ) → ℕ × List ℕ
@@ -24,7 +24,7 @@ on_access access h out = put (length h) access_size out (access_words (access (h
 
 -- a translation, its kind of access given by number
 abbrev pub on_translation : List ℕ → ℕ → List ℕ → (kind address width : ℕ) → List ℕ → ℕ × List ℕ
-on_translation h base bytes kind address width out = put_kind (length h) translation_size kind out (translation_words (translated (hart_of h) base bytes (kind_of kind) address width))
+on_translation h base bytes kind address width out = put_kind (length h) translation_size kind out (λ k. translation_words (translated (hart_of h) base bytes k address width))
 
 -- the place where a hart keeps the register with a number; `kept`, which is no place, where it keeps none
 abbrev pub place_of : Option (ℕ × Row) → ℕ

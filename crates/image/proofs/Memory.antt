@@ -5,6 +5,7 @@ use lib.Seq.{sets, sets-eq, length-sets}
 use Rattle.bits.specs.Field.{pick}
 use Rattle.image.specs.Image.{within, eight, entry}
 use Rattle.image.specs.Data.{little, low_bytes, bytes_at, stored}
+use Rattle.image.proofs.Bytes.{length-low}
 use Rattle.image.proofs.Tests.{within_facts}
 
 -- ---- a run of stores
@@ -31,10 +32,6 @@ sets_there (v ∷ vs) l from zero h f = rw add-zero (sets_apart vs (set l from v
 sets_there (v ∷ vs) l from (suc i) h f = let e : from + suc i ≡ suc from + i = omega arith in rw e (sets_there vs (set l from v) (suc from) i (omega arith) (omega (arith, length-set l from v)))
 
 -- ---- the low bytes of a number
-
-length-low : (n x : ℕ) → length (low_bytes n x) ≡ n
-length-low zero x = refl
-length-low (suc n) x = ap suc (length-low n (x / 256))
 
 low_byte : (n x i : ℕ) → i < n → get_or (low_bytes n x) i 0 ≡ x / 2 ^ (8 * i) % 256
 low_byte zero x i h = absurd (omega arith)

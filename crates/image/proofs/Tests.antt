@@ -20,7 +20,10 @@ within_facts base len address width t =
     (leb-true base address (and_left (leb base address) (leb (address + width) (base + len)) t), leb-true (address + width) (base + len) (and_right (leb base address) (leb (address + width) (base + len)) t))
 
 -- one comparison: an address below the base wraps to an offset past the limit
-module _ (base len address offset : ℕ) (top : base + len ≤ 2 ^ 56) (wraps : (offset + base) % 2 ^ 64 ≡ address) (fits : offset < 2 ^ 64) where
+module _ (base len address : ℕ) (top : base + len ≤ 2 ^ 56) (fits : address < 2 ^ 64) where
+  abbrev offset : ℕ
+  offset = (address + (2 ^ 64 - base)) % 2 ^ 64
+
   pub below-limit : offset < len - 7 → (within base len address 8 ≡ true) × (address - base ≡ offset)
   unfolding within
   below-limit h = (both (leb base address) (leb (address + 8) (base + len)) (le-leb base address (omega arith)) (le-leb (address + 8) (base + len) (omega arith)), omega arith)

@@ -4,25 +4,23 @@ ghost use Rattle.std.proofs.lemmas.List.Edits.{sets};
 ghost use Rattle.image.specs.Image.{within};
 ghost use Rattle.image.specs.Data.{little, low_bytes, extended, loaded, stored};
 
-use crate::wide;
-
-// The number that the bytes from an offset on make, the last byte first.
+// The number that the bytes from an offset on make, little-endian.
 fn join(s: &[u8], at: usize, width: usize) -> u64
-    requires { (at + width ≤ length s.now) × (width ≤ 8) }
-    ensures { (result ≡ little (take width (drop at s.now))) × (result < 2 ^ (8 * width)) }
+    requires fits { at + width ≤ length s.now }
+    requires few { width ≤ 8 }
+    ensures value { result ≡ little (take width (drop at s.now)) }
+    ensures small { result < 2 ^ (8 * width) }
 {
-    let mut x: u64 = 0;
-    let mut left = width;
-    while 0 < left {
-        left -= 1;
-        x = 256 * x + wide(s[at + left]);
-    }
-    x
+    let mut bytes = [0u8; 8];
+    bytes[..width].copy_from_slice(&s[at..at + width]);
+    u64::from_le_bytes(bytes)
 }
 
 // A number of so many bytes in 64 bits.
 fn extend(x: u64, width: u64, signed: bool) -> u64
-    requires { (1 ≤ width) × (width ≤ 8) × (x < 2 ^ (8 * width)) }
+    requires some { 1 ≤ width }
+    requires few { width ≤ 8 }
+    requires small { x < 2 ^ (8 * width) }
     ensures { result ≡ extended signed width x }
 {
     let sign = 1u64 << (8 * width - 1);
@@ -38,17 +36,17 @@ fn split(s: &mut [u8], at: usize, width: usize, value: u64)
     ensures { s.new ≡ sets s.old at (low_bytes width value) }
 {
     let mut rest = value;
-    let mut i: usize = 0;
-    while i < width {
-        s[at + i] = (rest % 256) as u8;
-        rest = rest / 256;
-        i += 1;
+    for byte in s[at..at + width].iter_mut() {
+        *byte = (rest % 256) as u8;
+        rest /= 256;
     }
 }
 
 // The bytes at a machine address.
 pub fn load(base: u64, bytes: &[u8], address: u64, width: u64, signed: bool) -> u64
-    requires { (1 ≤ width) × (width ≤ 8) × (within base (length bytes.now) address width ≡ true) }
+    requires some { 1 ≤ width }
+    requires few { width ≤ 8 }
+    requires inside { within base (length bytes.now) address width ≡ true }
     ensures { result ≡ loaded base bytes.now address width signed }
 {
     let x = join(bytes, (address - base) as usize, width as usize);

@@ -29,26 +29,12 @@ pub fn inside(base: u64, len: u64, address: u64, width: u64) -> bool
     address - base <= len - width
 }
 
-fn wide(x: u8) -> u64
-    ensures { (result ≡ x) × (result < 256) }
-{
-    x as u64
-}
-
-// The four bytes from an offset on.
-fn four(s: &[u8], at: usize) -> u64
-    requires { at + 4 ≤ length s.now }
-    ensures { (result ≡ four s.now at) × (result < 2 ^ 32) }
-{
-    wide(s[at]) | (wide(s[at + 1]) << 8) | (wide(s[at + 2]) << 16) | (wide(s[at + 3]) << 24)
-}
-
-// The eight bytes from an offset on. The compiler makes one load of these, also where it is inlined, since they are joined by `|`.
+// The eight bytes from an offset on, little-endian.
 fn load(s: &[u8], at: usize) -> u64
     requires { at + 8 ≤ length s.now }
     ensures { result ≡ eight s.now at }
 {
-    four(s, at) | (four(s, at + 4) << 32)
+    u64::from_le_bytes(<[u8; 8]>::try_from(&s[at..at + 8]).unwrap())
 }
 
 // The entry at a machine address; none stands outside the image.
@@ -61,24 +47,34 @@ pub fn fetch(base: u64, bytes: &[u8], address: u64) -> Option<u64>
     None
 }
 
-// The first offset at which no entry stands.
-pub fn limit(len: u64) -> u64
-    ensures { result ≡ len - 7 }
-{
-    if len < 8 {
-        return 0;
-    }
-    len - 7
+// An image that a walk reads, with the first offset at which no entry stands.
+#[derive(Clone, Copy)]
+pub struct Image<'a> {
+    pub base: u64,
+    pub limit: u64,
+    pub bytes: &'a [u8],
+    pub ghost ends: { base + length bytes.now ≤ 2 ^ 56 },
+    pub ghost last: { limit ≡ length bytes.now - 7 },
 }
 
-// The entry at a machine address, by one comparison: an address below the base wraps to an offset past the limit.
-pub fn fetch_below(base: u64, limit: u64, bytes: &[u8], address: u64) -> Option<u64>
-    requires { (base + length bytes.now ≤ 2 ^ 56) × (limit ≡ length bytes.now - 7) }
-    ensures { result ≡ entry base bytes.now address }
-{
-    let offset = std::num::wrapping_sub_u64(address, base);
-    if offset < limit {
-        return Some(load(bytes, offset as usize));
+impl<'a> Image<'a> {
+    pub fn new(base: u64, bytes: &'a [u8]) -> Image<'a>
+        requires { base + length bytes.now ≤ 2 ^ 56 }
+        ensures same_base { result.base ≡ base }
+        ensures same_bytes { result.bytes.now ≡ bytes.now }
+    {
+        let limit = (bytes.len() as u64).saturating_sub(7);
+        Image { base, limit, bytes }
     }
-    None
+
+    // The entry at a machine address, by one comparison: an address below the base wraps to an offset past the limit.
+    pub fn entry(self, address: u64) -> Option<u64>
+        ensures { result ≡ entry self.entry.base self.entry.bytes.now address }
+    {
+        let offset = address.wrapping_sub(self.base);
+        if offset < self.limit {
+            return Some(load(self.bytes, offset as usize));
+        }
+        None
+    }
 }

@@ -5,9 +5,10 @@ ghost use Rattle.std.specs.Prelude.{◌≡◌, [], ◌∷◌, ◌++◌, length, 
 ghost use Rattle.std.proofs.lemmas.List.Edits.{sets};
 ghost use Rattle.listing.specs.Listing.{answer_words, translation_size, translation_words};
 ghost use Rattle.translate.specs.Translated.{translated};
-ghost use Rattle.listing.specs.Taken.{kind_of, put_kind};
+ghost use Rattle.listing.specs.Taken.{put_kind};
 
 use hart::state::Hart;
+use image::Image;
 use rules::Kind;
 use stages::PLACES;
 use translate::Answer;
@@ -16,19 +17,6 @@ use translate::Answer;
 const LIST_AT: usize = 7;
 
 pub const TRANSLATION: usize = LIST_AT + 4 * PLACES;
-
-// The kind of access with a number.
-fn kind_of(n: u64) -> Kind
-    ensures { result ≡ kind_of n }
-{
-    if n == 0 {
-        return Kind::Fetch;
-    }
-    if n == 1 {
-        return Kind::Load;
-    }
-    Kind::Store
-}
 
 // The first seven words: what it came to, up to five words of it, and the count.
 fn put_seven(out: &mut [u64], to: u64, a: u64, b: u64, c: u64, d: u64, e: u64, count: u64)
@@ -81,12 +69,10 @@ fn translate_into(
             engine::clear(LIST_AT, TRANSLATION, &mut *out);
         }
         Ok(a) => {
-            let w = engine::walk_into(base, bytes, a, LIST_AT, &mut *out);
-            let next = w.next;
-            let reached = w.reached;
-            let count = (next - LIST_AT) / 4;
-            put_answer(Answer::from(reached), count as u64, &mut *out);
-            engine::clear(next, TRANSLATION, &mut *out);
+            let w = engine::walk_into(Image::new(base, bytes), a, LIST_AT, &mut *out);
+            let count = (w.next - LIST_AT) / 4;
+            put_answer(Answer::from(w.reached), count as u64, &mut *out);
+            engine::clear(w.next, TRANSLATION, &mut *out);
         }
     }
 }
@@ -103,7 +89,7 @@ pub fn put_translation(
     width: u64,
     out: &mut [u64],
 ) -> u64
-    ensures { (result, out.new) ≡ put_kind given translation_size kind out.old (translation_words (translated h base bytes.now (kind_of kind) address width)) }
+    ensures { (result, out.new) ≡ put_kind given translation_size kind out.old (λ k. translation_words (translated h base bytes.now k address width)) }
 {
     if given != layout::HART {
         return 1;
@@ -111,9 +97,9 @@ pub fn put_translation(
     if out.len() != TRANSLATION {
         return 1;
     }
-    if kind > 2 {
+    let Ok(kind) = Kind::try_from(kind) else {
         return 2;
-    }
-    translate_into(h, base, bytes, kind_of(kind), address, width, &mut *out);
+    };
+    translate_into(h, base, bytes, kind, address, width, &mut *out);
     0
 }

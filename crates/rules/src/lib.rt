@@ -3,8 +3,8 @@
 
 ghost use Rattle.std.specs.Prelude.{◌≡◌, true, ◌-◌, ◌<◌, ◌≤◌};
 ghost use Rattle.bits.specs.Field.{get};
-ghost use Rattle.rules.specs.Kind.{by};
-ghost use Rattle.rules.specs.Right.{by_right};
+ghost use Rattle.rules.specs.Kind.{by, numbered};
+ghost use Rattle.rules.specs.Right.{by_right, right_of};
 ghost use Rattle.rules.specs.Test.{test_of, Judges};
 ghost use Rattle.rules.specs.Address.{Stage, well_formed, index_bits, index};
 
@@ -17,6 +17,10 @@ pub enum Kind {
     Load,
     Store,
 }
+
+// A number that no kind of access has.
+#[derive(Clone, Copy)]
+pub struct UnknownKind(pub u64);
 
 // The rights that a leaf grants by X, R and W: in the order of the kinds, so that a kind's own right is the same number.
 #[derive(Clone, Copy)]
@@ -58,9 +62,24 @@ const POINTER: u64 = 0xFFC0_0000_0000_00DF;
 // Bits 55:12, where a PPN times 4096 stands.
 const PAGE: u64 = 0xFF_FFFF_FFFF_F000;
 
+impl TryFrom<u64> for Kind {
+    type Error = UnknownKind;
+
+    ghost try_from_gives = { λ n r. r ≡ numbered n };
+
+    fn try_from(n: u64) -> Result<Kind, UnknownKind> {
+        match n {
+            0 => Ok(Kind::Fetch),
+            1 => Ok(Kind::Load),
+            2 => Ok(Kind::Store),
+            _ => Err(UnknownKind(n)),
+        }
+    }
+}
+
 impl Kind {
-    // The test that is this kind's own.
-    pub fn test(self, fetch: bool, load: bool, store: bool) -> bool
+    // The one of three that is this kind's own.
+    pub fn by<T: Copy>(self, fetch: T, load: T, store: T) -> T
         ensures { result ≡ by self fetch load store }
     {
         match self {
@@ -71,9 +90,18 @@ impl Kind {
     }
 }
 
+impl From<Kind> for Right {
+    ghost from_gives = { λ kind right. right ≡ right_of kind };
+
+    // The right that is a kind's own.
+    fn from(kind: Kind) -> Right {
+        kind.by(Right::Execute, Right::Read, Right::Write)
+    }
+}
+
 impl Right {
-    // The mask that is this right's own.
-    fn mask(self, read: u64, write: u64, execute: u64) -> u64
+    // The one of three that is this right's own.
+    fn by<T: Copy>(self, read: T, write: T, execute: T) -> T
         ensures { result ≡ by_right self read write execute }
     {
         match self {
@@ -92,8 +120,8 @@ impl Need {
         let right = self.right;
         let user = self.user;
         let read = select(self.mxr, 0x0A, 0x02);
-        let some = right.mask(read, 0x04, 0x08);
-        let d = right.mask(0, 0x80, 0);
+        let some = right.by(read, 0x04, 0x08);
+        let d = right.by(0, 0x80, 0);
         let u = select(user, 0x10, select(!self.fetch & self.sum, 0, 0x10));
         Test {
             mask: 0xFFC0_0000_0000_0041 | d | u,

@@ -9,7 +9,7 @@ ghost use Rattle.second_stage.specs.Words.{onto, stored, into, Inspects};
 
 use access::{Access, Guest, Machine};
 use exceptions::Exception;
-use image::fetch_below;
+use image::Image;
 use rules::{Judgement, Test};
 
 // What a stage or the whole walk came to, and the index behind the words of its reads.
@@ -31,10 +31,8 @@ pub fn put(out: &mut [u64], next: usize, stage: u64, level: u64, at: u64, e: u64
 }
 
 // An entry of either stage: read, listed in out from an index on, and judged for an address. None is outside the image.
-pub fn inspect(
-    base: u64,
-    limit: u64,
-    bytes: &[u8],
+pub fn inspect<'a>(
+    image: Image<'a>,
     t: Test,
     stage: u64,
     level: u64,
@@ -43,10 +41,11 @@ pub fn inspect(
     next: usize,
     out: &mut [u64],
 ) -> Option<Judgement>
-    requires { (base + length bytes.now ≤ 2 ^ 56) × (limit ≡ length bytes.now - 7) × (level < 5) × (next + 4 ≤ length out.old) }
-    ensures { Inspects (look base bytes.now) t stage level address at next out.old out.new result }
+    requires low { level < 5 }
+    requires room { next + 4 ≤ length out.old }
+    ensures { Inspects (look image.entry.base image.entry.bytes.now) t stage level address at next out.old out.new result }
 {
-    let e = fetch_below(base, limit, bytes, at.0)?;
+    let e = image.entry(at.0)?;
     put(&mut *out, next, stage, level, at.0, e);
     Some(t.judge(level, address, e))
 }
@@ -79,18 +78,17 @@ pub fn passed(guest: Guest) -> Machine
 }
 
 // The second stage over a guest address, with so many first-stage levels left; its reads go into out, from an index on.
-pub fn walk(
-    base: u64,
-    limit: u64,
-    bytes: &[u8],
+pub fn walk<'a>(
+    image: Image<'a>,
     a: Access,
     left: u64,
     guest: Guest,
     from: usize,
     out: &mut [u64],
 ) -> Progress
-    requires { (base + length bytes.now ≤ 2 ^ 56) × (limit ≡ length bytes.now - 7) × Tables a × (from + 4 * a.second.levels ≤ length out.old) }
-    ensures { onto out.new result.next result.reached ≡ into (look base bytes.now) (translation (second_at a left guest)) out.old from }
+    requires tables { Tables a }
+    requires room { from + 4 * a.second.levels ≤ length out.old }
+    ensures { onto out.new result.next result.reached ≡ into (look image.entry.base image.entry.bytes.now) (translation (second_at a left guest)) out.old from }
 {
     let tables = a.second;
     let levels = tables.levels;
@@ -112,18 +110,7 @@ pub fn walk(
     let mut level = levels - 1;
     let mut at = tables.ppn * 4096 + 8 * rules::root_index(levels, address);
     loop {
-        let seen = inspect(
-            base,
-            limit,
-            bytes,
-            t,
-            2,
-            level,
-            address,
-            Machine(at),
-            next,
-            &mut *out,
-        );
+        let seen = inspect(image, t, 2, level, address, Machine(at), next, &mut *out);
         let Some(j) = seen else {
             return Progress {
                 next,

@@ -52,7 +52,7 @@ fn refused(kind: Kind, address: u64, width: u64) -> bool
 {
     let known = access::is_known(width);
     let fetch = !(width == 4) | !(address % 4 == 0);
-    kind.test(fetch, !known, !known)
+    kind.by(fetch, !known, !known)
 }
 
 // Whether a translation is refused, and as what.

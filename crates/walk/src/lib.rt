@@ -10,6 +10,7 @@ ghost use Rattle.walk.specs.Walked.{unpack, walked};
 
 use access::{Access, Machine};
 use exceptions::Exception;
+use image::Image;
 use stages::{PLACES, Read};
 
 // What a walk comes to: the list of reads with their count, and its end.
@@ -38,32 +39,29 @@ fn pack(words: &[u64]) -> [Read; PLACES]
     ensures { result ≡ unpack words.now }
 {
     let mut reads = none();
-    let mut i: usize = 0;
-    while i < PLACES {
+    for (i, read) in reads.iter_mut().enumerate() {
         let at = 4 * i;
-        reads[i] = Read {
+        *read = Read {
             stage: words[at],
             level: words[at + 1],
             address: Machine(words[at + 2]),
             value: words[at + 3],
         };
-        i += 1;
     }
     reads
 }
 
 // The walk of an access over an image.
 pub fn walk(base: u64, bytes: &[u8], a: Access) -> Walked
-    requires { (base + length bytes.now ≤ 2 ^ 56) × Tables a }
+    requires ends { base + length bytes.now ≤ 2 ^ 56 }
+    requires tables { Tables a }
     ensures { result ≡ walked (run (look base bytes.now) (walk_of base (length bytes.now) a)) }
 {
     let mut words = [0u64; 4 * PLACES];
-    let w = engine::list(base, bytes, a, PLACES, 0, &mut words);
-    let reached = w.reached;
-    let reads = pack(&words);
+    let w = engine::list(Image::new(base, bytes), a, PLACES, 0, &mut words);
     Walked {
-        reads,
+        reads: pack(&words),
         count: w.count,
-        reached,
+        reached: w.reached,
     }
 }

@@ -5,4 +5,4 @@ pub overflow_sub-t : goal.overflow_sub-t
 overflow_sub-t c = (powered c.args.address c.args.width c.requires).0
 
 pub returns : goal.returns
-returns c = let a = c.args in rw (c.test.ensures, (powered a.address a.width c.requires).1)
+returns c = let a = c.args in rw (c.by.ensures, (powered a.address a.width c.requires).1)

@@ -4,6 +4,3 @@ use Rattle.effective.proofs.tables.Goals as goal
 
 pub depth-requires : goal.depth-requires
 depth-requires c = rw c.get.ensures (get-lt MODE _)
-
-pub returns : goal.returns
-returns c = rw (c.get-2.ensures, c.depth.ensures, c.get.ensures)

@@ -1,16 +1,14 @@
-use mathlib.Core.Path.{refl, ◌∙◌}
+use mathlib.Core.Path.{sym, ap, ◌∙◌}
+use Prim.Native.Nat.{ℕ, ◌-◌}
 use native.Mathlib.Omega.{arith}
-use lib.ListN.{length-set}
-use Rattle.engine.proofs.Zeros.{zero-stored, zeros_all}
+use lib.ListN.{replicate, drop, length-replicate, length-drop}
+use lib.Seq.{length-take-le}
+use Rattle.image.proofs.Bytes.{put-sets}
 use Rattle.engine.proofs.clear.Goals as goal
 
-pub loop-i-init : goal.loop-i-init
-loop-i-init c = (c.requires.0, c.requires.1, refl, refl)
-
-pub loop-i-preserved : goal.loop-i-preserved
-loop-i-preserved c =
-    let l = c.loop-i in
-    (omega arith, l.invariant.1, length-set l.out l.i 0 ∙ l.invariant.2, zero-stored l.out l.i _ _ (omega arith) l.invariant.3)
-
 pub returns : goal.returns
-returns c = let l = c.loop-i in zeros_all l.out l.i _ _ (omega arith) l.invariant.3
+returns c =
+    let a = c.args in
+    let n : ℕ = a.end - a.from in
+    let size = length-take-le n (drop a.from a.out.now) (rw length-drop (omega arith)) in
+    put-sets a.out.now (replicate n 0) c.fill.new.self a.from n (c.fill.ensures.after (λ y e. e) ∙ ap (λ (k : ℕ). replicate k 0) size) (sym (length-replicate n 0)) (rw length-replicate (omega arith))

@@ -14,28 +14,28 @@ use Rattle.engine.proofs.list.Goals.{After-walk_into-w}
 use Rattle.engine.proofs.list.Goals as goal
 
 abbrev ran : After-walk_into-w → Ran (Result Machine Exception)
-ran w = let a = w.args in run (look a.base a.bytes.now) (walk_of a.base (length a.bytes.now) a.a)
+ran w = let a = w.args in run (look a.image.base a.image.bytes.now) (walk_of a.image.base (length a.image.bytes.now) a.a)
 
 -- what the walk left
 left : (w : After-walk_into-w) → let a = w.args in
     Left (ran w) a.out.now a.from w.walk_into-w.new.out w.walk_into-w.result.next w.walk_into-w.result.reached
 left w =
     let a = w.args in
-    left_by (look a.base a.bytes.now) (walk_of a.base (length a.bytes.now) a.a) a.out.now a.from w.walk_into-w.ensures
+    left_by (look a.image.base a.image.bytes.now) (walk_of a.image.base (length a.image.bytes.now) a.a) a.out.now a.from w.walk_into-w.ensures
 
 -- the reads have places
 fits : (w : After-walk_into-w) → length (ran w).reads ≤ w.args.places
 fits w =
     let a = w.args in
-    omega (arith, within-reach a.a a.base (length a.bytes.now) (look a.base a.bytes.now), w.requires.2)
+    omega (arith, within-reach a.a a.image.base (length a.image.bytes.now) (look a.image.base a.image.bytes.now), w.requires.enough)
 
 pub walk_into-w-requires : goal.walk_into-w-requires
-walk_into-w-requires c = (c.requires.0, c.requires.1, omega (arith, c.requires.2, c.requires.3))
+walk_into-w-requires c = record { tables = c.requires.tables; room = omega (arith, c.requires.enough, c.requires.room) }
 
 pub clear-requires : goal.clear-requires
 clear-requires c =
     let w = (goal.at.clear-requires c).After-walk_into-w in
-    (omega (arith, (left w).next, fits w), omega (arith, (left w).size, c.requires.3))
+    record { order = omega (arith, (left w).next, fits w); fits = omega (arith, (left w).size, c.requires.room) }
 
 pub overflow_sub-result : goal.overflow_sub-result
 overflow_sub-result c = omega (arith, (left (goal.at.overflow_sub-result c).After-walk_into-w).next)

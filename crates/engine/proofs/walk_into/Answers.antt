@@ -17,24 +17,24 @@ use Rattle.engine.proofs.walk_into.Goals as goal
 
 -- where the walk begins
 begins : (s : After-start-guest) → let a = s.args in
-    Walks (look a.base a.bytes.now) a.base (length a.bytes.now) a.a a.out.now a.from a.out.now a.from a.a.first.levels s.start-guest.result
+    Walks (look a.image.base a.image.bytes.now) a.image.base (length a.image.bytes.now) a.a a.out.now a.from a.out.now a.from a.a.first.levels s.start-guest.result
 begins s =
     let a = s.args in
-    rw s.start-guest.ensures (start (look a.base a.bytes.now) a.base (length a.bytes.now) a.a a.out.now a.from (sym s.strays.ensures ∙ s.if-strays.false) s.requires.2)
+    rw s.start-guest.ensures (start (look a.image.base a.image.bytes.now) a.image.base (length a.image.bytes.now) a.a a.out.now a.from (sym s.strays.ensures ∙ s.if-strays.false) s.requires.room)
 
 -- after the second stage
 arrival : (s : After-walk-s) → let a = s.args in
-    Arrives (look a.base a.bytes.now) a.base (length a.bytes.now) a.a a.out.now a.from s.walk-s.new.out s.walk-s.result.next s.loop-m.left s.walk-s.result.reached
+    Arrives (look a.image.base a.image.bytes.now) a.image.base (length a.image.bytes.now) a.a a.out.now a.from s.walk-s.new.out s.walk-s.result.next s.loop-m.left s.walk-s.result.reached
 arrival s = arrives s.loop-m.invariant s.walk-s.ensures
 
 -- at a machine address
 reached : (r : In-Ok) → let a = r.args in
-    Arrives (look a.base a.bytes.now) a.base (length a.bytes.now) a.a a.out.now a.from r.walk-s.new.out r.walk-s.result.next r.loop-m.left (Ok r.in-Ok.m)
+    Arrives (look a.image.base a.image.bytes.now) a.image.base (length a.image.bytes.now) a.a a.out.now a.from r.walk-s.new.out r.walk-s.result.next r.loop-m.left (Ok r.in-Ok.m)
 reached r = rw r.in-Ok.is at (arrives r.loop-m.invariant r.walk-s.ensures)
 
 -- the entry that was read, and what it is; a first-stage level was left for it
 sees : (k : In-Some) → let a = k.args in
-    Sees (look a.base a.bytes.now) k.test-t.result 1 (k.loop-m.left - 1) a.a.address k.in-Ok.m k.walk-s.result.next k.walk-s.new.out k.inspect-seen.new.out k.in-Some.j
+    Sees (look a.image.base a.image.bytes.now) k.test-t.result 1 (k.loop-m.left - 1) a.a.address k.in-Ok.m k.walk-s.result.next k.walk-s.new.out k.inspect-seen.new.out k.in-Some.j
 sees k = rw k.in-Some.is at k.inspect-seen.ensures
 
 tested : (k : In-Some) → k.test-t.result ≡ test_of (first_need k.args.a)
@@ -46,7 +46,7 @@ on k = omega (arith, k.if-left-eq0.false)
 pub returns-then-strays : goal.returns-then-strays
 returns-then-strays c =
     let a = c.args in
-    rw c.page_fault.ensures (astray (look a.base a.bytes.now) a.base (length a.bytes.now) a.a a.out.now a.from (sym c.strays.ensures ∙ c.if-strays.true))
+    rw c.page_fault.ensures (astray (look a.image.base a.image.bytes.now) a.image.base (length a.image.bytes.now) a.a a.out.now a.from (sym c.strays.ensures ∙ c.if-strays.true))
 
 -- neither stage is on
 pub returns-then-left-second_tables : goal.returns-then-left-second_tables
@@ -54,14 +54,14 @@ returns-then-left-second_tables c =
     let a = c.args in
     let f = eqb a.a.first.levels 0 in
     let s = eqb a.a.second.levels 0 in
-    let none = off (look a.base a.bytes.now) a.a a.a.first.levels c.start-guest.result a.out.now a.from (eqb-true _ _ (and_right f s c.if-left-second_tables.true)) in
+    let none = off (look a.image.base a.image.bytes.now) a.a a.a.first.levels c.start-guest.result a.out.now a.from (eqb-true _ _ (and_right f s c.if-left-second_tables.true)) in
     rw (c.conclude.ensures, c.passed.ensures) (finished (arrives (begins (goal.at.returns-then-left-second_tables c).After-start-guest) none) (eqb-true _ _ (and_left f s c.if-left-second_tables.true)))
 
 pub loop-m-init : goal.loop-m-init
 loop-m-init c = begins (goal.at.loop-m-init c).After-start-guest
 
 pub walk-s-requires : goal.walk-s-requires
-walk-s-requires c = (c.requires.0, c.limit-limit.ensures, c.requires.1, omega (arith, c.loop-m.invariant.room))
+walk-s-requires c = record { tables = c.requires.tables; room = omega (arith, c.loop-m.invariant.room) }
 
 pub returns-in_default : goal.returns-in_default
 returns-in_default c = rw c.in_default.is (failed (rw c.in_default.is at (arrival (goal.at.returns-in_default c).After-walk-s)))
@@ -72,7 +72,7 @@ returns-then-left-eq0 c = rw c.conclude-then-left-eq0.ensures (finished (reached
 pub inspect-seen-requires : goal.inspect-seen-requires
 inspect-seen-requires c =
     let on : 0 < c.loop-m.left = omega (arith, c.if-left-eq0.false) in
-    (c.requires.0, c.limit-limit.ensures, omega (arith, c.loop-m.invariant.depth, c.requires.1.first), has_room (reached (goal.at.inspect-seen-requires c).In-Ok) on)
+    record { low = omega (arith, c.loop-m.invariant.depth, c.requires.tables.first); room = has_room (reached (goal.at.inspect-seen-requires c).In-Ok) on }
 
 pub returns-in_default-seen : goal.returns-in_default-seen
 returns-in_default-seen c = rw c.access_fault.ensures (outside (reached (goal.at.returns-in_default-seen c).In-Ok) (omega (arith, c.if-left-eq0.false)) (rw c.in_default-seen.is at c.inspect-seen.ensures))
@@ -101,7 +101,7 @@ overflow_sub-left-in-Pointer c =
     omega (arith, (bounds (sees k) _ (tested k) c.in-Pointer.is).0)
 
 pub index-requires : goal.index-requires
-index-requires c = omega (arith, c.loop-m.invariant.depth, c.requires.1.first)
+index-requires c = omega (arith, c.loop-m.invariant.depth, c.requires.tables.first)
 
 pub overflow_add-guest : goal.overflow_add-guest
 overflow_add-guest c =

@@ -32,7 +32,8 @@ left : (w : After-walk_into-w) → let a = w.args in
     Left (ran w) a.out.now list_at w.walk_into-w.new.out w.walk_into-w.result.next w.walk_into-w.result.reached
 left w =
     let a = w.args in
-    left_by (look a.base a.bytes.now) (walk_of a.base (length a.bytes.now) w.in-Ok.a) a.out.now list_at w.walk_into-w.ensures
+    left_by (look a.base a.bytes.now) (walk_of a.base (length a.bytes.now) w.in-Ok.a) a.out.now list_at
+    (rw (← w.new.ensures.same_base, ← w.new.ensures.same_bytes) w.walk_into-w.ensures)
 
 room : (w : After-walk_into-w) → length (ran w).reads ≤ places
 room w = let a = w.args in few w.in-Ok.a a.base (length a.bytes.now) (look a.base a.bytes.now) (starts-walk w).tables
@@ -44,13 +45,16 @@ size w = (left w).size ∙ w.requires
 pub clear-requires : goal.clear-requires
 clear-requires c =
     let a = c.args in
-    (omega arith, omega (arith, ap length c.put_answer.ensures ∙ answer-length c.in-Err.x 0 a.out.now (omega arith)))
+    record { order = omega arith; fits = omega (arith, ap length c.put_answer.ensures ∙ answer-length c.in-Err.x 0 a.out.now (omega arith)) }
+
+pub new-requires : goal.new-requires
+new-requires c = let a = c.args in (walking a.h a.base a.bytes.now a.kind a.address a.width _ (sym c.starts-s.ensures ∙ c.in-Ok.is)).ends
 
 pub walk_into-w-requires : goal.walk_into-w-requires
 walk_into-w-requires c =
     let a = c.args in
     let w = walking a.h a.base a.bytes.now a.kind a.address a.width _ (sym c.starts-s.ensures ∙ c.in-Ok.is) in
-    (w.ends, w.tables, omega (arith, enough c.in-Ok.a w.tables))
+    record { tables = w.tables; room = omega (arith, enough c.in-Ok.a w.tables) }
 
 pub overflow_sub-count : goal.overflow_sub-count
 overflow_sub-count c = omega (arith, (left (goal.at.overflow_sub-count c).After-walk_into-w).next)
@@ -61,7 +65,10 @@ put_answer-requires-in-Ok c = size (goal.at.put_answer-requires-in-Ok c).After-w
 pub clear-requires-in-Ok : goal.clear-requires-in-Ok
 clear-requires-in-Ok c =
     let w = (goal.at.clear-requires-in-Ok c).After-walk_into-w in
-    (omega (arith, (left w).next, room w), omega (arith, ap length c.put_answer-in-Ok.ensures ∙ answer-length c.from.result ((w.walk_into-w.result.next - list_at) / 4) w.walk_into-w.new.out (omega (arith, size w)), size w))
+    record {
+      order = omega (arith, (left w).next, room w);
+      fits = omega (arith, ap length c.put_answer-in-Ok.ensures ∙ answer-length c.from.result ((w.walk_into-w.result.next - list_at) / 4) w.walk_into-w.new.out (omega (arith, size w)), size w);
+    }
 
 pub returns-in-Err : goal.returns-in-Err
 unfolding translation_words

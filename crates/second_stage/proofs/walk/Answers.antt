@@ -9,32 +9,32 @@ use Rattle.second_stage.proofs.walk.Goals as goal
 -- the entry that was read, and what it is
 sees : (k : In-Some) → let a = k.args in
     let l = k.loop-j in
-    Sees (look a.base a.bytes.now) k.test-t.result 2 l.level a.guest.0 (machine l.at) l.next l.out k.inspect-seen.new.out k.in-Some.j
+    Sees (look a.image.base a.image.bytes.now) k.test-t.result 2 l.level a.guest.0 (machine l.at) l.next l.out k.inspect-seen.new.out k.in-Some.j
 sees k = rw k.in-Some.is at k.inspect-seen.ensures
 
 pub returns-then-levels-eq0 : goal.returns-then-levels-eq0
 returns-then-levels-eq0 c =
     let a = c.args in
-    rw c.passed.ensures (off (look a.base a.bytes.now) a.a a.left a.guest a.out.now a.from c.if-levels-eq0.true)
+    rw c.passed.ensures (off (look a.image.base a.image.bytes.now) a.a a.left a.guest a.out.now a.from c.if-levels-eq0.true)
 
 pub returns-then-not-is_small : goal.returns-then-not-is_small
 returns-then-not-is_small c =
     let a = c.args in
     rw c.fault.ensures
-    (too_large (look a.base a.bytes.now) a.a a.left a.guest a.out.now a.from (omega (arith, c.if-levels-eq0.false)) (sym c.is_small.ensures ∙ c.if-not-is_small.true))
+    (too_large (look a.image.base a.image.bytes.now) a.a a.left a.guest a.out.now a.from (omega (arith, c.if-levels-eq0.false)) (sym c.is_small.ensures ∙ c.if-not-is_small.true))
 
 pub root_index-requires : goal.root_index-requires
-root_index-requires c = (omega (arith, c.if-levels-eq0.false), c.requires.2.second, sym c.is_small.ensures ∙ c.if-not-is_small.false)
+root_index-requires c = (omega (arith, c.if-levels-eq0.false), c.requires.tables.second, sym c.is_small.ensures ∙ c.if-not-is_small.false)
 
 pub loop-j-init : goal.loop-j-init
 loop-j-init c =
     let a = c.args in
-    from-root (look a.base a.bytes.now) a.a a.left a.guest a.out.now a.from (omega (arith, c.if-levels-eq0.false))
-    (sym c.is_small.ensures ∙ c.if-not-is_small.false) c.requires.3 c.root_index.result c.root_index.ensures.0
+    from-root (look a.image.base a.image.bytes.now) a.a a.left a.guest a.out.now a.from (omega (arith, c.if-levels-eq0.false))
+    (sym c.is_small.ensures ∙ c.if-not-is_small.false) c.requires.room c.root_index.result c.root_index.ensures.0
 
 pub inspect-seen-requires : goal.inspect-seen-requires
 inspect-seen-requires c =
-    (c.requires.0, c.requires.1, omega (arith, c.loop-j.invariant.under, c.requires.2.second), omega (arith, c.loop-j.invariant.room))
+    record { low = omega (arith, c.loop-j.invariant.under, c.requires.tables.second); room = omega (arith, c.loop-j.invariant.room) }
 
 pub returns-in_default : goal.returns-in_default
 returns-in_default c = rw c.access_fault.ensures (outside c.loop-j.invariant (rw c.in_default.is at c.inspect-seen.ensures))
@@ -52,7 +52,7 @@ pub overflow_sub-level-in-Pointer : goal.overflow_sub-level-in-Pointer
 overflow_sub-level-in-Pointer c = omega (arith, (bounds (sees (goal.at.overflow_sub-level-in-Pointer c).In-Some) _ c.test-t.ensures c.in-Pointer.is).0)
 
 pub index-requires : goal.index-requires
-index-requires c = omega (arith, c.loop-j.invariant.under, c.requires.2.second)
+index-requires c = omega (arith, c.loop-j.invariant.under, c.requires.tables.second)
 
 pub overflow_add-at-in-Pointer : goal.overflow_add-at-in-Pointer
 overflow_add-at-in-Pointer c = omega (arith, (bounds (sees (goal.at.overflow_add-at-in-Pointer c).In-Some) _ c.test-t.ensures c.in-Pointer.is).1, c.index.ensures.1)

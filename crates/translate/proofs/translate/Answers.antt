@@ -6,7 +6,7 @@ pub walk-w-requires : goal.walk-w-requires
 walk-w-requires c =
     let a = c.args in
     let w = walking a.h a.base a.bytes.now a.kind a.address a.width _ (sym c.starts-s.ensures ∙ c.in-Ok.is) in
-    (w.ends, w.tables)
+    record { ends = w.ends; tables = w.tables }
 
 pub returns-in-Err : goal.returns-in-Err
 returns-in-Err c =

@@ -9,16 +9,14 @@ use Rattle.walk.proofs.pack.Goals as goal
 pub loop-i-init : goal.loop-i-init
 loop-i-init c =
     let n : length c.none-reads.result ≡ places = ap length c.none-reads.ensures in
-    (omega arith, c.requires, n, filled c.none-reads.result c.args.words.now places n c.requires)
+    (n, filled c.none-reads.result c.args.words.now places n c.requires)
 
 pub loop-i-preserved : goal.loop-i-preserved
 loop-i-preserved c =
     let l = c.loop-i in (
-      omega arith,
-      l.invariant.1,
-      length-set l.reads l.i _ ∙ l.invariant.2,
-      packs l.reads c.args.words.now _ l.i (4 * l.i) (l.i + 1) (4 * (l.i + 1)) (omega arith) (omega arith) (omega arith) l.invariant.3,
+      length-set l.read-items l.i _ ∙ l.invariant.0,
+      packs l.read-items c.args.words.now _ l.i (4 * l.i) (l.i + 1) (4 * (l.i + 1)) (omega arith) (omega arith) (omega arith) l.invariant.1,
     )
 
 pub returns : goal.returns
-returns c = let l = c.loop-i in packs_all l.reads c.args.words.now _ l.i (4 * l.i) (omega arith) l.invariant.3
+returns c = let l = c.loop-i in packs_all l.read-items c.args.words.now _ l.i (4 * l.i) (omega arith) l.invariant.1

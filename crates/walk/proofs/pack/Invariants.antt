@@ -1,5 +1,5 @@
 use mathlib.Core.Path.{◌≡◌}
-use Prim.Native.Nat.{◌*◌, ◌-◌, ◌≤◌}
+use Prim.Native.Nat.{◌*◌}
 use lib.ListN.{length, drop}
 use lib.Seq.{sets}
 use Rattle.stages.specs.Listed.{places}
@@ -7,7 +7,4 @@ use Rattle.walk.specs.Walked.{unpack}
 use Rattle.walk.proofs.pack.Given as goal
 
 abbrev pub invariant-loop-i : goal.invariant-loop-i
-invariant-loop-i l = (l.i ≤ places) × (length l.words ≡ 4 * places) × (length l.reads ≡ places) × (sets l.reads l.i (unpack (drop (4 * l.i) l.words)) ≡ unpack l.words)
-
-abbrev pub decreases-loop-i : goal.decreases-loop-i
-decreases-loop-i l = places - l.i
+invariant-loop-i l = (length l.read-items ≡ places) × (sets l.read-items l.i (unpack (drop (4 * l.i) l.words)) ≡ unpack l.words)

@@ -12,14 +12,14 @@ use Rattle.walk.proofs.walk.Goals as goal
 pub list-w-requires : goal.list-w-requires
 list-w-requires c =
     let p = c.requires in
-    (p.0, p.1, enough c.args.a p.1, omega arith)
+    record { tables = p.tables; enough = enough c.args.a p.tables; room = omega arith }
 
 pub returns : goal.returns
 returns c =
     let a = c.args in
-    let p = c.requires in
+    let i = c.new.result in
     let w = c.list-w in
-    let R = run (look a.base a.bytes.now) (walk_of a.base (length a.bytes.now) a.a) in
-    let room = few a.a a.base (length a.bytes.now) (look a.base a.bytes.now) p.1 in
-    let rs = c.pack-reads.ensures ∙ ap unpack w.ensures.words ∙ handed _ places R.reads refl room in
-    rw (rs, w.ensures.count, w.ensures.end)
+    let R = run (look i.base i.bytes.now) (walk_of i.base (length i.bytes.now) a.a) in
+    let room = few a.a i.base (length i.bytes.now) (look i.base i.bytes.now) c.requires.tables in
+    let rs = c.pack.ensures ∙ ap unpack w.ensures.words ∙ handed _ places R.reads refl room in
+    rw (← c.new.ensures.same_base, ← c.new.ensures.same_bytes) (rw (rs, w.ensures.count, w.ensures.end))

@@ -18,7 +18,7 @@ pub walk-requires : goal.walk-requires
 walk-requires c =
     let a = c.args in
     let same : c.guest_access-a.result ≡ access_for a.self a.c a.p a.address a.width = rw (c.guest_access-a.ensures, c.right.ensures, c.kind-kind.ensures) in
-    rw same ((taken _ _ _ _ c.requires).ends, tables_for a.self a.c a.p a.address a.width)
+    rw same (record { ends = (taken _ _ _ _ c.requires).ends; tables = tables_for a.self a.c a.p a.address a.width })
 
 pub returns : goal.returns
 unfolding walk_for

@@ -1,32 +1,26 @@
-use Rattle.std.proofs.Common.{◌≡◌, ◌-◌, ◌*◌, add-zero, arith, pow_mono}
-use native.Mathlib.Nat.{sub-zero}
-use Rattle.image.proofs.Bytes.{joins}
+use Rattle.std.proofs.Common.{◌≡◌, ◌+◌, ◌-◌, ◌<◌, ◌∙◌, ap, length, take, drop, arith, length-drop, length-take-le}
+use Rattle.std.proofs.lemmas.List.{get_or-take, get_or-drop}
+use Rattle.image.specs.Data.{little}
+use Rattle.image.proofs.Bytes.{filled, little-lt}
+use Rattle.image.proofs.data.join.Goals.{After-from_le_bytes}
 use Rattle.image.proofs.data.join.Goals as goal
 
-pub loop-left-init : goal.loop-left-init
-loop-left-init c = let none : c.args.width - c.args.width ≡ 0 = omega arith in (omega arith, rw none, rw none (omega arith))
+size : (c : After-from_le_bytes) → let a = c.args in length (take a.width (drop a.at a.s.now)) ≡ a.width
+size c = let a = c.args in length-take-le a.width (drop a.at a.s.now) (rw length-drop (omega arith))
 
-pub overflow_mul-x : goal.overflow_mul-x
-overflow_mul-x c =
-    let l = c.loop-left in
+value : (c : After-from_le_bytes) → let a = c.args in c.from_le_bytes.result ≡ little (take a.width (drop a.at a.s.now))
+value c =
     let a = c.args in
-    omega (arith, l.invariant.2, pow_mono {i = 8 * (a.width - l.left)} {j = 56} (omega (arith, c.requires)))
+    let same : a.at + a.width - a.at ≡ a.width = omega arith in
+    let new = rw same at c.copy_from_slice.ensures.after in
+    c.from_le_bytes.ensures ∙ filled c.copy_from_slice.new.self a.width (ap length new ∙ size c) (omega arith) ∙ ap little new
 
-pub overflow_add-x : goal.overflow_add-x
-overflow_add-x c =
-    let l = c.loop-left in
+pub returns-clause-value : goal.returns-clause-value
+returns-clause-value c = value c
+
+pub returns-clause-small : goal.returns-clause-small
+returns-clause-small c =
     let a = c.args in
-    omega (arith, l.invariant.2, c.wide.ensures, pow_mono {i = 8 * (a.width - l.left)} {j = 56} (omega (arith, c.requires)))
-
-pub loop-left-preserved : goal.loop-left-preserved
-loop-left-preserved c =
-    let l = c.loop-left in
-    let a = c.args in
-    let j = joins a.s.now a.at a.width l.left l.x c.wide.result (omega arith) l.invariant.0 c.requires.0 l.invariant.1 l.invariant.2 c.wide.ensures.0 c.wide.ensures.1 in
-    (omega arith, j.0, j.1)
-
-pub returns : goal.returns
-returns c =
-    let l = c.loop-left in
-    let none : l.left ≡ 0 = omega arith in
-    (rw (none, add-zero, sub-zero) at l.invariant.1, rw (none, sub-zero) at l.invariant.2)
+    let bytes = take a.width (drop a.at a.s.now) in
+    let small = little-lt bytes (λ i l. let k : i < a.width = omega (arith, size c) in let b = c.type_inv.s (a.at + i) in rw (get_or-take, get_or-drop) (omega (arith, b))) in
+    rw (value c) (rw (size c) at small)

@@ -7,8 +7,8 @@ returns c =
       c.select-2.ensures,
       c.select-u.ensures,
       c.select.ensures,
-      c.mask-d.ensures,
-      c.mask-some.ensures,
+      c.by-d.ensures,
+      c.by-some.ensures,
       c.select-read.ensures,
       test-code c.args.self,
     )

@@ -17,7 +17,7 @@ load-value-requires c =
     let test = sym c.is_done.ensures ∙ c.if-not-is_done.false in
     let d = done-inside _ _ _ _ _ _ _ (rw r at test) in
     let k = at_most_eight _ d.0 in
-    (k.0, k.1, rw r d.1)
+    record { some = k.0; few = k.1; inside = rw r d.1 }
 
 pub returns : goal.returns
 unfolding load
