@@ -169,6 +169,19 @@ fn put_around(to: Control, outcome: Outcome, out: &mut [u64])
     out[HART..STEP].copy_from_slice(&outcome_words(outcome));
 }
 
+// A hart's words. Two are read, then two are written, which the compiler makes one load and one store; `copy_from_slice` calls memmove, and slows an access.
+fn copy(ws: &[u64], out: &mut [u64])
+    requires from { length ws.now ≡ hart_size }
+    requires to { length out.old ≡ hart_size }
+    ensures { out.new ≡ ws.now }
+{
+    for i in 0..HART / 2 {
+        let (a, b) = (ws[2 * i], ws[2 * i + 1]);
+        out[2 * i] = a;
+        out[2 * i + 1] = b;
+    }
+}
+
 // A register access on a hart's words, made where its result stands.
 pub fn access_into(
     h: &[u64],
@@ -184,17 +197,10 @@ pub fn access_into(
     if misfit(h.len(), out.len(), ACCESS) {
         return 1;
     }
-    let hart = hart_of(h);
-    out[..HART].copy_from_slice(h);
-    let answer = hart.control().access(
-        hart.passes(),
-        form,
-        number,
-        w,
-        writes,
-        word,
-        &mut out[3..HART],
-    );
+    let passed = hart_of(h).passes();
+    copy(h, &mut out[..HART]);
+    let from = hart_of(h).control();
+    let answer = from.access(passed, form, number, w, writes, word, &mut out[3..HART]);
     out[STEP] = answer.value;
     put_around(answer.control, answer.outcome, &mut *out);
     0

@@ -90,10 +90,7 @@ pub fn put_translation(
 ) -> u64
     ensures { (result, out.new) ≡ put_kind given translation_size kind out.old (λ k. translation_words (translated h base bytes.now k address width)) }
 {
-    if given != layout::HART {
-        return 1;
-    }
-    if out.len() != TRANSLATION {
+    if layout::misfit(given, out.len(), TRANSLATION) {
         return 1;
     }
     let Ok(kind) = Kind::try_from(kind) else {
