@@ -8,14 +8,15 @@ use lib.Bits.{bit_or}
 use lib.Dec.{eqb, ltb}
 use lib.ListN.{get_or, length, get_or-map}
 use borrow.Author.Tests.{eqb-true, ltb-true}
+use Rattle.std.specs.Prelude.{Option, Some, None}
 use Rattle.bits.specs.Field.{pick, top, bits, get, put}
 use Rattle.bits.specs.Every.{every}
-use Rattle.bits.proofs.Bools.{and_left, and_right, pick_both, split}
+use Rattle.bits.proofs.Bools.{and_left, and_right, pick_both, split, clash}
 use Rattle.bits.proofs.Every.{every-at, every_any}
 use Rattle.bits.proofs.Tests.{fits, outside}
 use Rattle.registers.specs.Places.{kept, stvec, sscratch, sepc, scause, stval, satp, vsstatus, vstvec, vsscratch, vsepc, vscause, vstval, vsatp, mstatus, medeleg, mideleg, mie, mtvec, mscratch, mepc, mcause, mtval, mip, mtinst, mtval2, hstatus, hedeleg, hideleg, htval, htinst, hgatp}
 use Rattle.registers.specs.Rules.{Rule, legal, stores_word, rules, rule, stored, of_m}
-use Rattle.registers.specs.Views.{View, ungated, up, no_bits}
+use Rattle.registers.specs.Views.{View, up, no_bits}
 use Rattle.registers.specs.Registers.{count, supervisor, Register, register, registers, at}
 use Rattle.registers.specs.File.{initial, holds, registers_pass}
 use Rattle.registers.proofs.Legal.{sound, spares, taken-legal, legal-taken, fixed-legal}
@@ -118,17 +119,30 @@ reaches-writes i guest =
 pub counted : (length registers ≡ count) × (length rules ≡ kept)
 counted = (refl, refl)
 
+-- the two are one gate
+abbrev pub same_gate : Option ℕ → Option ℕ → Bool
+same_gate None None = true
+same_gate None (Some q) = false
+same_gate (Some p) None = false
+same_gate (Some p) (Some q) = eqb p q
+
+pub same_gate_lem : (g k : Option ℕ) → same_gate g k ≡ true → g ≡ k
+same_gate_lem None None t = refl
+same_gate_lem None (Some q) t = clash t
+same_gate_lem (Some p) None t = clash t
+same_gate_lem (Some p) (Some q) t = ap (λ (n : ℕ). Some n) (eqb-true p q t)
+
 -- the two are one view
 abbrev pub same_view : View → View → Bool
-same_view v w = eqb v.home w.home && (eqb v.shift w.shift && (eqb v.shows w.shows && (eqb v.writes w.writes && eqb v.gate w.gate)))
+same_view v w = eqb v.home w.home && (eqb v.shift w.shift && (eqb v.shows w.shows && (eqb v.writes w.writes && same_gate v.gate w.gate)))
 
 pub same_view_lem : (v w : View) → same_view v w ≡ true → v ≡ w
 same_view_lem v w t =
     split (eqb v.home w.home) _ t (λ a t₁. split (eqb v.shift w.shift) _ t₁ (λ b t₂. split (eqb v.shows w.shows) _ t₂ (λ c t₃.
-    split (eqb v.writes w.writes) (eqb v.gate w.gate) t₃ (λ d e.
+    split (eqb v.writes w.writes) (same_gate v.gate w.gate) t₃ (λ d e.
     ap₂ (λ (h s : ℕ). record { home = h; shift = s; shows = v.shows; writes = v.writes; gate = v.gate }) (eqb-true _ _ a) (eqb-true _ _ b)
     ∙ ap₂ (λ (s x : ℕ). record { home = w.home; shift = w.shift; shows = s; writes = x; gate = v.gate }) (eqb-true _ _ c) (eqb-true _ _ d)
-    ∙ ap (λ (g : ℕ). record { home = w.home; shift = w.shift; shows = w.shows; writes = w.writes; gate = g }) (eqb-true _ _ e)))))
+    ∙ ap (λ (g : Option ℕ). record { home = w.home; shift = w.shift; shows = w.shows; writes = w.writes; gate = g }) (same_gate_lem _ _ e)))))
 
 -- the view of the register with a number passes a test
 abbrev bears : ℕ → List Register → (View → Bool) → Bool
@@ -142,7 +156,7 @@ twins = refl
 
 -- every bit of a place is shown as it is there
 abbrev shows_all : ℕ → View → Bool
-shows_all p v = eqb v.home p && (eqb v.shift 0 && (eqb v.shows top && eqb v.gate ungated))
+shows_all p v = eqb v.home p && (eqb v.shift 0 && (eqb v.shows top && same_gate v.gate None))
 
 -- each place's name has the number that document 01 and 2026-01 give the register: S, VS, H, M
 pub numbered : every (λ i (r : ℕ × ℕ). bears r.1 registers (shows_all r.0)) 0 (

@@ -1,27 +1,27 @@
 -- How a register is seen and written: some bits of a place (document 01, "sstatus is mstatus's SIE, SPIE, ..").
-use Rattle.std.specs.Prelude.{List, [], ◌∷◌, ◌++◌, ℕ, ◌*◌, ◌/◌, ◌%◌, ◌^◌, get_or}
+use Rattle.std.specs.Prelude.{List, [], ◌∷◌, ◌++◌, ℕ, ◌*◌, ◌/◌, ◌%◌, ◌^◌, get_or, Option, Some, None}
 use Rattle.std.specs.Int.Bits.{bit_and}
 use Rattle.bits.specs.Field.{top, bits, copy}
 use Rattle.registers.specs.Fields.{SIE, SPIE, SPP, SUM, MXR, UXL, SSI, VSSI}
-use Rattle.registers.specs.Places.{kept, mstatus, mideleg, mie, mip, hideleg}
+use Rattle.registers.specs.Places.{mstatus, mideleg, mie, mip, hideleg}
 use Rattle.registers.specs.Rules.{rule, stored, of_s, of_vs}
 
 -- A view: the place where the register's bits are kept; how far up from its own bits they stand there; those of its bits that a read
--- shows and those that a write stores; and the place of the register that lets them through by its bits.
+-- shows and those that a write stores; and the place of the register that lets them through by its bits, if one does.
 pub record View : Type 0 where
   pub home : ℕ
   pub shift : ℕ
   pub shows : ℕ
   pub writes : ℕ
-  pub gate : ℕ
+  pub gate : Option ℕ
 
--- no place: all bits are let through
-abbrev pub ungated : ℕ
-ungated = kept
+-- the bits that a gate lets through; without one all are
+abbrev pub gate_bits : List ℕ → Option ℕ → ℕ
+gate_bits rs None = top
+gate_bits rs (Some place) = get_or rs place top
 
--- the bits that a view's gate lets through
 abbrev pub lets : List ℕ → View → ℕ
-lets rs v = get_or rs v.gate top
+lets rs v = gate_bits rs v.gate
 
 -- a word moved up
 abbrev pub up : (shift x : ℕ) → ℕ
@@ -37,7 +37,7 @@ stored_by v gate old x = stored v.home (up v.shift v.writes) old (copy gate (up 
 
 -- some bits of a place as they are there
 abbrev pub window : (home shows writes : ℕ) → View
-window home shows writes = record { home = home; shift = 0; shows = shows; writes = writes; gate = ungated }
+window home shows writes = record { home = home; shift = 0; shows = shows; writes = writes; gate = None }
 
 -- the register that is kept at a place
 abbrev pub whole : ℕ → View
@@ -67,7 +67,7 @@ hvip_view = window mip (bits of_vs) (bits of_vs)
 
 -- 1, 5 and 9, kept so far up at a home, where the register at a gate has the bit
 abbrev pub gated : (home shift writes gate : ℕ) → View
-gated home shift writes gate = record { home = home; shift = shift; shows = bits of_s; writes = writes; gate = gate }
+gated home shift writes gate = record { home = home; shift = shift; shows = bits of_s; writes = writes; gate = Some gate }
 
 -- sie: mie's 1, 5 and 9 where mideleg has the bit. sip: mip's; 1 alone can be written
 abbrev pub sie_view : View

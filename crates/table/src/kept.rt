@@ -8,13 +8,13 @@ use bits::select;
 use registers::{masks, places};
 
 // Where a register's bits are kept and how far up they stand there, those that a read shows, and the place of the register that lets
-// them through, or that of none: KEPT.
+// them through, if one does.
 #[derive(Clone, Copy)]
 pub struct Kept {
     pub home: usize,
     pub shift: u64,
     pub shows: u64,
-    pub gate: usize,
+    pub gate: Option<usize>,
 }
 
 // The rows of the registers that show some bits of another's place, or none.
@@ -127,16 +127,17 @@ fn shows(row: usize) -> u64
 }
 
 // The place of its gate.
-fn gate(row: usize) -> u64
+fn gate(row: usize) -> Option<usize>
     requires { row < count }
     ensures { result ≡ (at row).view.gate }
 {
-    let guest = select(
-        (row == VSIE) | (row == VSIP),
-        places::HIDELEG as u64,
-        places::KEPT as u64,
-    );
-    select((row == SIE) | (row == SIP), places::MIDELEG as u64, guest)
+    if (row == SIE) | (row == SIP) {
+        return Some(places::MIDELEG);
+    }
+    if (row == VSIE) | (row == VSIP) {
+        return Some(places::HIDELEG);
+    }
+    None
 }
 
 // The row that its number reaches with V=1, for S numbers that of the VS register.
@@ -160,7 +161,7 @@ fn kept_at(row: usize) -> Kept
         home: homes[row] as usize,
         shift: shift(row),
         shows: shows(row),
-        gate: gate(row) as usize,
+        gate: gate(row),
     }
 }
 
