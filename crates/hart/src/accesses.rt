@@ -40,11 +40,8 @@ pub struct Answer {
 fn gate(at: Kept, regs: &[u64; places::KEPT]) -> u64
     ensures { result ≡ lets regs.now (view_of at 0) }
 {
-    let gate = at.gate;
-    if gate < places::KEPT {
-        return regs[gate];
-    }
-    masks::WORD
+    let gate = at.gate.and_then(|place| regs.get(place));
+    gate.copied().unwrap_or(masks::WORD)
 }
 
 impl Control {

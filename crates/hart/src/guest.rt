@@ -2,6 +2,7 @@
 ghost use Rattle.std.specs.Prelude.{◌≡◌};
 ghost use Rattle.hart.specs.Guest.{unwalked, arrives, reach, performed, load, hlv, hlvx, hsv};
 
+use crate::event;
 use crate::event::{Outcome, Step};
 use crate::state::Hart;
 use hypervisor::Operation;
@@ -31,8 +32,7 @@ pub struct Performed {
 fn unwalked(s: Step) -> Reach
     ensures { result ≡ unwalked s }
 {
-    let hart = s.hart;
-    let outcome = s.outcome;
+    let Step { hart, outcome } = s;
     Reach {
         hart,
         outcome,
@@ -45,15 +45,19 @@ fn unwalked(s: Step) -> Reach
 fn answer(r: Reach, value: u64) -> Performed
     ensures { result ≡ performed r value }
 {
-    let hart = r.hart;
-    let outcome = r.outcome;
-    let reads = r.reads;
+    let Reach {
+        hart,
+        outcome,
+        reads,
+        count,
+        ..
+    } = r;
     Performed {
         hart,
         outcome,
         value,
         reads,
-        count: r.count,
+        count,
     }
 }
 
@@ -62,23 +66,29 @@ impl Hart {
     fn arrive(self, w: Walked) -> Reach
         ensures { result ≡ arrives self w.reached w.reads w.count }
     {
-        let reads = w.reads;
-        match w.reached {
-            Ok(m) => Reach {
-                hart: self.moved(),
-                outcome: Outcome::Done,
-                at: m.0,
-                reads,
-                count: w.count,
-            },
-            Err(f) => {
-                let s = self.take_trap(f);
+        let Walked {
+            reads,
+            count,
+            reached,
+        } = w;
+        match reached {
+            Ok(m) => {
                 Reach {
-                    hart: s.hart,
-                    outcome: s.outcome,
+                    hart: self.moved(),
+                    outcome: Outcome::Done,
+                    at: m.0,
+                    reads,
+                    count,
+                }
+            }
+            Err(f) => {
+                let Step { hart, outcome } = self.take_trap(f);
+                Reach {
+                    hart,
+                    outcome,
                     at: 0,
                     reads,
-                    count: w.count,
+                    count,
                 }
             }
         }
@@ -98,7 +108,7 @@ impl Hart {
     {
         let c = self.context();
         let own = o.check(base, bytes.len() as u64, width);
-        match self.stops(own, instructions::hypervisor_access(c)) {
+        match event::stops(self.passes(), own, instructions::hypervisor_access(c)) {
             Ok(()) => self.arrive(o.walk(c, self.paging(), base, bytes, address, width)),
             Err(halt) => unwalked(self.halt(halt, word)),
         }
@@ -118,8 +128,7 @@ impl Hart {
         ensures { result ≡ load self o base bytes.now width signed address word }
     {
         let r = self.reach(o, base, bytes, width, address, word);
-        let outcome = r.outcome;
-        if !outcome.is_done() {
+        if !r.outcome.is_done() {
             return answer(r, 0);
         }
         let value = image::data::load(base, bytes, r.at, width, signed);
@@ -158,12 +167,11 @@ impl Hart {
     ) -> Performed
         ensures { (result, bytes.new) ≡ hsv self base bytes.old width address value word }
     {
-        let r = self.reach(Operation::Hsv, base, &*bytes, width, address, word);
-        let ended = r.outcome;
-        if !ended.is_done() {
-            return answer(r, 0);
+        let reached = self.reach(Operation::Hsv, base, bytes, width, address, word);
+        if !reached.outcome.is_done() {
+            return answer(reached, 0);
         }
-        image::data::store(base, &mut *bytes, r.at, width, value);
-        answer(r, 0)
+        image::data::store(base, bytes, reached.at, width, value);
+        answer(reached, 0)
     }
 }

@@ -19,7 +19,8 @@ use Rattle.bits.proofs.Lists.{any_default}
 use Rattle.registers.specs.Fields.{VTVM}
 use Rattle.registers.specs.Places.{kept, mie, mip, hideleg}
 use Rattle.registers.specs.Rules.{among}
-use Rattle.registers.specs.Views.{View, ungated, lets, up, stored_by, no_bits}
+use Rattle.registers.proofs.Rows.{same_gate, same_gate_lem}
+use Rattle.registers.specs.Views.{View, gate_bits, lets, up, stored_by, no_bits}
 use Rattle.registers.proofs.Through.{through_alone}
 use Rattle.registers.specs.Registers.{count, Register, register, registers, at}
 use Rattle.table.specs.declared.Row.{Row}
@@ -49,10 +50,10 @@ covered v = every {A = ℕ} (λ n x. not (has n (up v.shift v.writes)) || among 
 
 -- what a guest reaches: a VS register, or what hideleg hands down of mie or mip
 abbrev own : View → Bool
-own v = guest v.home && eqb v.gate ungated
+own v = guest v.home && same_gate v.gate None
 
 abbrev lent : View → Bool
-lent v = eqb v.gate hideleg && (shared v.home && covered v)
+lent v = same_gate v.gate (Some hideleg) && (shared v.home && covered v)
 
 -- one computed test: a row that is neither M's nor VS's nor H's reaches no more with V=1
 abbrev test : ℕ → Register → Bool
@@ -64,18 +65,18 @@ tested = refl
 
 pub record Own (v : View) : Type 0 where
   pub home : guest v.home ≡ true
-  pub gate : v.gate ≡ ungated
+  pub gate : v.gate ≡ None
 
 pub record Lent (v : View) : Type 0 where
   pub home : shared v.home ≡ true
-  pub gate : v.gate ≡ hideleg
+  pub gate : v.gate ≡ Some hideleg
   pub bits : (n : ℕ) → n < 64 → (not (has n (up v.shift v.writes)) || among n (handed v.home)) ≡ true
 
 reach : (v : View) → (own v || lent v) ≡ true → Own v ⊎ Lent v
 reach v t =
-    ⊎_elim (λ o. split (guest v.home) (eqb v.gate ungated) o (λ a b. inl (record { home = a; gate = eqb-true _ _ b })))
-    (λ k. split (eqb v.gate hideleg) _ k (λ a r. split (shared v.home) (covered v) r (λ b c.
-    inr (record { home = b; gate = eqb-true _ _ a; bits = every-at {A = ℕ} (λ n x. not (has n (up v.shift v.writes)) || among n (handed v.home)) (replicate 64 0) 0 c }))))
+    ⊎_elim (λ o. split (guest v.home) (same_gate v.gate None) o (λ a b. inl (record { home = a; gate = same_gate_lem _ _ b })))
+    (λ k. split (same_gate v.gate (Some hideleg)) _ k (λ a r. split (shared v.home) (covered v) r (λ b c.
+    inr (record { home = b; gate = same_gate_lem _ _ a; bits = every-at {A = ℕ} (λ n x. not (has n (up v.shift v.writes)) || among n (handed v.home)) (replicate 64 0) 0 c }))))
     (or_cases (own v) (lent v) t)
 
 in_VS : (v p : ℕ) → Mode v p → v ≡ 1 → (eqb v 1 && eqb p 0) ≡ false → (eqb v 1 && eqb p 1) ≡ true
@@ -105,8 +106,8 @@ reached-guest h place w p v l a =
     rw v (reach (at place).twin (simp (e₁, e₂) at (every-at test registers (register 0 0 no_bits) tested place l)))
 
 -- what a lent view's gate lets through, in a hart that keeps so many registers
-pub lent_gate : (h : Hart) (v : View) → length h.regs ≡ kept → v.gate ≡ hideleg → lets h.regs v ≡ reg h hideleg
-lent_gate h v l e = ap (λ (g : ℕ). get_or h.regs g top) e ∙ any_default h.regs hideleg top 0 (omega (arith, l))
+pub lent_gate : (h : Hart) (v : View) → length h.regs ≡ kept → v.gate ≡ Some hideleg → lets h.regs v ≡ reg h hideleg
+lent_gate h v l e = ap (λ (g : Option ℕ). gate_bits h.regs g) e ∙ any_default h.regs hideleg top 0 (omega (arith, l))
 
 -- no place differs but those of VS registers and of interrupts; of a place of the host no bit differs but those that hideleg hands down
 pub record Kept (h h' : Hart) : Type 0 where

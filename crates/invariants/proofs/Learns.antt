@@ -255,9 +255,6 @@ module _ (h h' : Hart) (a : Alike h h') where
         → bit_and (stored_by v (lets h.regs v) (reg h v.home) x) (reg h hideleg) ≡ bit_and (stored_by v (lets h'.regs v) (reg h' v.home) x) (reg h' hideleg)
     pub other : eqb v.home hideleg ≡ false
 
-  ungated-lets : (k : Hart) (v : View) → length k.regs ≡ kept → v.gate ≡ kept → lets k.regs v ≡ top
-  ungated-lets k v l e = rw e (get_or-eq_default k.regs top (omega (arith, l)))
-
   reads : (v : View) → Own v ⊎ Lent v → Reads v
   reads v = ⊎_elim of_own of_lent
     where
@@ -267,8 +264,8 @@ module _ (h h' : Hart) (a : Alike h h') where
 
       of_own : Own v → Reads v
       of_own o =
-          let g = ungated-lets h v a.left.size o.gate in
-          let g' = ungated-lets h' v a.right.size o.gate in
+          let g : lets h.regs v ≡ top = rw o.gate in
+          let g' : lets h'.regs v ≡ top = rw o.gate in
           let e = a.guest v.home o.home in
           record {
             sees = rw (g, g', e);
