@@ -8,7 +8,7 @@ use bits::select;
 use registers::{masks, places};
 
 // Where a register's bits are kept and how far up they stand there, those that a read shows, and the place of the register that lets
-// them through, or that of none: KEPT.
+// them through, or that of none: KEPT. (A number, as the views of the registers have it: an Option asks for its bound in each contract.)
 #[derive(Clone, Copy)]
 pub struct Kept {
     pub home: usize,
