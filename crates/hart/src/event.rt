@@ -128,7 +128,7 @@ impl Control {
                     outcome: Outcome::Refused(refusal),
                 }
             }
-            Halt::Raises(cause) => self.take_trap(plain(cause, word as u64), regs),
+            Halt::Raises(cause) => self.take_trap(plain(cause, u64::from(word)), regs),
         }
     }
 }
@@ -156,7 +156,7 @@ impl Hart {
                     outcome: Outcome::Refused(refusal),
                 }
             }
-            Halt::Raises(cause) => self.take_trap(plain(cause, word as u64)),
+            Halt::Raises(cause) => self.take_trap(plain(cause, u64::from(word))),
         }
     }
 

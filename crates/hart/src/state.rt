@@ -46,12 +46,7 @@ impl Hart {
     pub fn context(self) -> Context
         ensures { result ≡ context self }
     {
-        Context {
-            v: self.v,
-            privilege: self.privilege,
-            mstatus: self.regs[places::MSTATUS],
-            hstatus: self.regs[places::HSTATUS],
-        }
+        self.control().context(&self.regs)
     }
 
     // What an interrupt's being due depends on beside.

@@ -343,7 +343,7 @@ const TABLE: [Row; ROWS] = [
 fn number_of(row: Row) -> u64
     ensures { result ≡ row.number }
 {
-    row.number as u64
+    u64::from(row.number)
 }
 
 // The search goes on among the rows of a quarter, those from place first to before place end, after looks at the middle row of the
