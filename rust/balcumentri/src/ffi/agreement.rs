@@ -267,7 +267,7 @@ fn sizes() -> impl Fn(&str) -> u64 {
         "stages/src/lib.rt",
         "layout/src/lib.rt",
         "listing/src/lib.rt",
-        "listing/src/guest.rt",
+        "layout/src/guest.rt",
     ];
     let mut all = BTreeMap::new();
     for file in files {
