@@ -6,3 +6,4 @@ pub mod Looks
 pub mod Listed
 pub mod Columns
 pub mod Twins
+pub mod Levels

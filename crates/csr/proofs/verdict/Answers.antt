@@ -1,21 +1,6 @@
-use Rattle.std.proofs.Common.{◌≡◌, refl, ◌∙◌}
-use denote.Enum.Bare.{sameb}
-use Rattle.table.specs.contracts.Level.{the_type}
-use Rattle.table.specs.declared.Level.{Level}
-use Rattle.table.specs.declared.Level.TheVariants.{Supervisor, Hypervisor, Machine}
-use Rattle.table.specs.Table.{is_machine, is_hypervisor}
+use mathlib.Core.Path.{◌∙◌}
+use Rattle.table.proofs.Levels.{same_machine, same_hypervisor}
 use Rattle.csr.proofs.verdict.Goals as goal
-
--- what a comparison of levels finds
-same_machine : (l : Level) → sameb the_type l Machine ≡ is_machine l
-same_machine Supervisor = refl
-same_machine Hypervisor = refl
-same_machine Machine = refl
-
-same_hypervisor : (l : Level) → sameb the_type l Hypervisor ≡ is_hypervisor l
-same_hypervisor Supervisor = refl
-same_hypervisor Hypervisor = refl
-same_hypervisor Machine = refl
 
 pub returns : goal.returns
 returns c =
