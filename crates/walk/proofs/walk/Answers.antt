@@ -9,11 +9,6 @@ use Rattle.walk.specs.Walked.{unpack}
 use Rattle.walk.proofs.Packs.{handed}
 use Rattle.walk.proofs.walk.Goals as goal
 
-pub list-w-requires : goal.list-w-requires
-list-w-requires c =
-    let p = c.requires in
-    record { tables = p.tables; enough = enough c.args.a p.tables; room = omega arith }
-
 pub returns : goal.returns
 returns c =
     let a = c.args in
