@@ -1,9 +1,8 @@
 use mathlib.Core.Path.{refl, ap, ◌∙◌}
-use native.Mathlib.Omega.{arith}
 use lib.ListN.{length}
 use Rattle.stages.specs.Tree.{run}
 use Rattle.stages.specs.Stages.{look, walk_of}
-use Rattle.engine.proofs.Places.{enough, few}
+use Rattle.engine.proofs.Places.{few}
 use Rattle.stages.specs.Listed.{places}
 use Rattle.walk.specs.Walked.{unpack}
 use Rattle.walk.proofs.Packs.{handed}
