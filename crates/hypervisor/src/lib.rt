@@ -3,7 +3,7 @@
 
 ghost use Rattle.std.specs.Prelude.{◌≡◌, length};
 ghost use Rattle.walk.specs.Walked.{walked};
-ghost use Rattle.hypervisor.specs.Hypervisor.{kind_of, right_needed, offered, refusal_of, access_for, walk_for};
+ghost use Rattle.hypervisor.specs.Hypervisor.{by_operation, kind_of, right_needed, offered, refusal_of, access_for, walk_for};
 
 use effective::Paging;
 use privilege::Context;
@@ -18,24 +18,27 @@ pub enum Operation {
 }
 
 impl Operation {
+    // The one of three that is the operation's own.
+    fn by<T: Copy>(self, hlv: T, hlvx: T, hsv: T) -> T
+        ensures { result ≡ by_operation self hlv hlvx hsv }
+    {
+        match self {
+            Operation::Hlv => hlv,
+            Operation::Hlvx => hlvx,
+            Operation::Hsv => hsv,
+        }
+    }
+
     fn kind(self) -> Kind
         ensures { result ≡ kind_of self }
     {
-        match self {
-            Operation::Hlv => Kind::Load,
-            Operation::Hlvx => Kind::Load,
-            Operation::Hsv => Kind::Store,
-        }
+        self.by(Kind::Load, Kind::Load, Kind::Store)
     }
 
     fn right(self) -> Right
         ensures { result ≡ right_needed self }
     {
-        match self {
-            Operation::Hlv => Right::Read,
-            Operation::Hlvx => Right::Execute,
-            Operation::Hsv => Right::Write,
-        }
+        self.by(Right::Read, Right::Execute, Right::Write)
     }
 
     // Whether there is a form for so many bytes.
@@ -43,11 +46,7 @@ impl Operation {
         ensures { result ≡ offered self width }
     {
         let known = access::is_known(width);
-        match self {
-            Operation::Hlv => known,
-            Operation::Hlvx => (width == 2) | (width == 4),
-            Operation::Hsv => known,
-        }
+        self.by(known, (width == 2) | (width == 4), known)
     }
 
     // The number of the refusal that follows check 2; 0: none.
