@@ -92,7 +92,7 @@ pub fn walk_into<'a>(image: Image<'a>, a: Access, from: usize, out: &mut [u64]) 
                 reached: conclude(base, len, a, m),
             };
         }
-        left = left - 1;
+        left -= 1;
         let seen = second_stage::inspect(image, t, 1, left, address, m, next, &mut *out);
         let Some(j) = seen else {
             return Progress {
@@ -100,7 +100,7 @@ pub fn walk_into<'a>(image: Image<'a>, a: Access, from: usize, out: &mut [u64]) 
                 reached: Err(a.access_fault()),
             };
         };
-        next = next + 4;
+        next += 4;
         match j {
             Judgement::Bad => {
                 return Progress {

@@ -116,7 +116,7 @@ pub fn walk<'a>(
                 reached: Err(a.access_fault()),
             };
         };
-        next = next + 4;
+        next += 4;
         match j {
             Judgement::Bad => {
                 return Progress {
@@ -131,7 +131,7 @@ pub fn walk<'a>(
                 };
             }
             Judgement::Pointer(table) => {
-                level = level - 1;
+                level -= 1;
                 at = table + 8 * rules::index(level, address);
             }
         }

@@ -29,9 +29,6 @@ fits w =
     let a = w.args in
     omega (arith, within-reach a.a a.image.base (length a.image.bytes.now) (look a.image.base a.image.bytes.now), w.requires.enough)
 
-pub walk_into-w-requires : goal.walk_into-w-requires
-walk_into-w-requires c = record { tables = c.requires.tables; room = omega (arith, c.requires.enough, c.requires.room) }
-
 pub clear-requires : goal.clear-requires
 clear-requires c =
     let w = (goal.at.clear-requires c).After-walk_into-w in

@@ -60,9 +60,6 @@ returns-then-left-a c =
 pub loop-m-init : goal.loop-m-init
 loop-m-init c = begins (goal.at.loop-m-init c).After-start-guest
 
-pub walk-s-requires : goal.walk-s-requires
-walk-s-requires c = record { tables = c.requires.tables; room = omega (arith, c.loop-m.invariant.room) }
-
 pub returns-in_default : goal.returns-in_default
 returns-in_default c = rw c.in_default.is (failed (rw c.in_default.is at (arrival (goal.at.returns-in_default c).After-walk-s)))
 
@@ -86,9 +83,6 @@ returns-in-Bad c =
     let m = (goal.at.returns-in-Bad c).In-Ok in
     rw c.page_fault-in-Bad.ensures (bad (reached m) (on k) (tested k) (sees k) c.in-Bad.is)
 
-pub loop-m-smaller-in-Leaf : goal.loop-m-smaller-in-Leaf
-loop-m-smaller-in-Leaf c = on (goal.at.loop-m-smaller-in-Leaf c).In-Some
-
 pub loop-m-preserved-in-Leaf : goal.loop-m-preserved-in-Leaf
 loop-m-preserved-in-Leaf c =
     let k = (goal.at.loop-m-preserved-in-Leaf c).In-Some in
@@ -100,16 +94,10 @@ overflow_sub-left-in-Pointer c =
     let k = (goal.at.overflow_sub-left-in-Pointer c).In-Some in
     omega (arith, (bounds (sees k) _ (tested k) c.in-Pointer.is).0)
 
-pub index-requires : goal.index-requires
-index-requires c = omega (arith, c.loop-m.invariant.depth, c.requires.tables.first)
-
 pub overflow_add-guest : goal.overflow_add-guest
 overflow_add-guest c =
     let k = (goal.at.overflow_add-guest c).In-Some in
     omega (arith, (bounds (sees k) _ (tested k) c.in-Pointer.is).1, c.index.ensures.small)
-
-pub loop-m-smaller : goal.loop-m-smaller
-loop-m-smaller c = omega (arith, on (goal.at.loop-m-smaller c).In-Some)
 
 pub loop-m-preserved : goal.loop-m-preserved
 loop-m-preserved c =

@@ -23,24 +23,14 @@ returns-then-not-is_small c =
     rw c.fault.ensures
     (too_large (look a.image.base a.image.bytes.now) a.a a.left a.guest a.out.now a.from (omega (arith, c.if-levels-eq0.false)) (sym c.is_small.ensures ∙ c.if-not-is_small.true))
 
-pub root_index-requires : goal.root_index-requires
-root_index-requires c = record { some = omega (arith, c.if-levels-eq0.false); few = c.requires.tables.second; small = sym c.is_small.ensures ∙ c.if-not-is_small.false }
-
 pub loop-j-init : goal.loop-j-init
 loop-j-init c =
     let a = c.args in
     from-root (look a.image.base a.image.bytes.now) a.a a.left a.guest a.out.now a.from (omega (arith, c.if-levels-eq0.false))
     (sym c.is_small.ensures ∙ c.if-not-is_small.false) c.requires.room c.root_index.result c.root_index.ensures.value
 
-pub inspect-seen-requires : goal.inspect-seen-requires
-inspect-seen-requires c =
-    record { low = omega (arith, c.loop-j.invariant.under, c.requires.tables.second); room = omega (arith, c.loop-j.invariant.room) }
-
 pub returns-in_default : goal.returns-in_default
 returns-in_default c = rw c.access_fault.ensures (outside c.loop-j.invariant (rw c.in_default.is at c.inspect-seen.ensures))
-
-pub overflow_add-next : goal.overflow_add-next
-overflow_add-next c = omega (arith, c.loop-j.invariant.room, c.loop-j.invariant.size)
 
 pub returns-in-Bad : goal.returns-in-Bad
 returns-in-Bad c = rw c.fault-in-Bad.ensures (bad c.loop-j.invariant c.test-t.ensures (sees (goal.at.returns-in-Bad c).In-Some) c.in-Bad.is)
@@ -50,9 +40,6 @@ returns-in-Leaf c = leaf c.loop-j.invariant c.test-t.ensures (sees (goal.at.retu
 
 pub overflow_sub-level-in-Pointer : goal.overflow_sub-level-in-Pointer
 overflow_sub-level-in-Pointer c = omega (arith, (bounds (sees (goal.at.overflow_sub-level-in-Pointer c).In-Some) _ c.test-t.ensures c.in-Pointer.is).0)
-
-pub index-requires : goal.index-requires
-index-requires c = omega (arith, c.loop-j.invariant.under, c.requires.tables.second)
 
 pub overflow_add-at-in-Pointer : goal.overflow_add-at-in-Pointer
 overflow_add-at-in-Pointer c = omega (arith, (bounds (sees (goal.at.overflow_add-at-in-Pointer c).In-Some) _ c.test-t.ensures c.in-Pointer.is).1, c.index.ensures.small)

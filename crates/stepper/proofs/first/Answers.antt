@@ -6,9 +6,3 @@ pub begin-requires : goal.begin-requires
 begin-requires c =
     let a = c.args in
     walks_tables a.h a.base a.len a.kind a.address a.width _ (sym c.starts-s.ensures ∙ c.in-Ok.is)
-
-pub returns-in-Err : goal.returns-in-Err
-returns-in-Err c = rw (← c.starts-s.ensures, c.in-Err.is)
-
-pub returns-in-Ok : goal.returns-in-Ok
-returns-in-Ok c = rw (c.begin.ensures, ← c.starts-s.ensures, c.in-Ok.is)

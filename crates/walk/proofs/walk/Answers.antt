@@ -1,18 +1,12 @@
 use mathlib.Core.Path.{refl, ap, ◌∙◌}
-use native.Mathlib.Omega.{arith}
 use lib.ListN.{length}
 use Rattle.stages.specs.Tree.{run}
 use Rattle.stages.specs.Stages.{look, walk_of}
-use Rattle.engine.proofs.Places.{enough, few}
+use Rattle.engine.proofs.Places.{few}
 use Rattle.stages.specs.Listed.{places}
 use Rattle.walk.specs.Walked.{unpack}
 use Rattle.walk.proofs.Packs.{handed}
 use Rattle.walk.proofs.walk.Goals as goal
-
-pub list-w-requires : goal.list-w-requires
-list-w-requires c =
-    let p = c.requires in
-    record { tables = p.tables; enough = enough c.args.a p.tables; room = omega arith }
 
 pub returns : goal.returns
 returns c =

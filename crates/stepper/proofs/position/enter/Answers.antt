@@ -18,10 +18,6 @@ returns-then-not-is_small c =
       onto_bad a.base a.len a.a a.first a.entry a.guest a.a.second.levels (omega (arith, c.if-levels-eq0.false)) (sym c.is_small.ensures ∙ c.if-not-is_small.true),
     )
 
-pub root_index-requires : goal.root_index-requires
-root_index-requires c =
-    record { some = omega (arith, c.if-levels-eq0.false); few = c.requires.second; small = sym c.is_small.ensures ∙ c.if-not-is_small.false }
-
 pub returns : goal.returns
 returns c =
     let a = c.args in
