@@ -42,11 +42,16 @@ impl Hart {
         }
     }
 
-    // What an instruction's permission depends on.
+    // What an instruction's permission depends on. (By value, beside that of `Control`: through it a translation takes more instructions.)
     pub fn context(self) -> Context
         ensures { result ≡ context self }
     {
-        self.control().context(&self.regs)
+        Context {
+            v: self.v,
+            privilege: self.privilege,
+            mstatus: self.regs[places::MSTATUS],
+            hstatus: self.regs[places::HSTATUS],
+        }
     }
 
     // What an interrupt's being due depends on beside.
