@@ -1,4 +1,0 @@
-use Rattle.exports.proofs.accesses.balcumentri_read.Goals as goal
-
-pub returns : goal.returns
-returns c = c.access_into.ensures
