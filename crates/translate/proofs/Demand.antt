@@ -104,8 +104,13 @@ module _ (h : Hart) (base : ℕ) (bytes : List ℕ) (kind : Kind) (address width
       go (Ok x) false = walk_accepted ran.end
 
   -- a refusal leaves the hart as given and the list empty
-  pub refusal_empty : 0 < refusal t.answer → t ≡ unwalked h t.answer
-  refusal_empty = each h base bytes kind address width (λ (x : Translated). 0 < refusal x.answer → x ≡ unwalked h x.answer) (λ x e q. refl) (λ p k q. absurd (omega (arith, walk_accepted ran.end)))
+  pub refusal_empty : 0 < refusal t.answer → (r : Refusal) × (t ≡ unwalked h (Answer.Refused r))
+  refusal_empty = each h base bytes kind address width (λ (x : Translated). 0 < refusal x.answer → (r : Refusal) × (x ≡ unwalked h (Answer.Refused r))) (λ x e q. go x q) (λ p k q. absurd (omega (arith, q, walk_accepted ran.end)))
+    where
+      go : (x : Answer) → 0 < refusal x → (r : Refusal) × (unwalked h x ≡ unwalked h (Answer.Refused r))
+      go (Answer.Address m) q = absurd (omega (arith, q))
+      go (Answer.Refused r) q = (r, refl)
+      go (Answer.Fault f) q = absurd (omega (arith, q))
 
   -- an accepted translation leaves a hart that passes check 2
   pub accepted_passes : refusal t.answer ≡ 0 → passes t.hart ≡ true
