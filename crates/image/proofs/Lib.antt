@@ -1,4 +1,3 @@
 pub mod Tests
-pub mod Joined
 pub mod Bytes
 pub mod Memory
