@@ -86,6 +86,7 @@ impl Access {
         }
     }
 
+    // Each fault is one call, by its name in the rules: an argument that says which would be matched on to make the same call.
     // A misaligned load or store.
     pub fn misalignment(self) -> Exception
         ensures { result ≡ misalignment self }

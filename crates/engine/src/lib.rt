@@ -80,6 +80,7 @@ pub fn walk_into<'a>(image: Image<'a>, a: Access, from: usize, out: &mut [u64]) 
         };
     }
     let t = a.first_need().test();
+    // no range counts these turns: the levels left fall where an entry is a pointer
     loop {
         let s = second_stage::walk(image, a, left, guest, next, &mut *out);
         next = s.next;

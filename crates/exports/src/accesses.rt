@@ -6,6 +6,8 @@ ghost use Rattle.exports.specs.Calls.{on_access};
 
 use csr::Form;
 
+// Each is a symbol of its own, which C calls by name.
+
 // Reads the register with a number.
 #[unsafe(no_mangle)]
 pub extern "C" fn balcumentri_read(h: &[u64], number: u64, word: u32, out: &mut [u64]) -> u64

@@ -9,6 +9,8 @@ ghost use Rattle.exports.specs.Calls.{on_step};
 
 use exceptions::Exception;
 
+// Each is a symbol of its own, which C calls by name.
+
 // A trap request.
 #[unsafe(no_mangle)]
 pub extern "C" fn balcumentri_trap(

@@ -104,6 +104,7 @@ impl Control {
         ensures { accessed_on result regs.new ≡ access_row (on self regs.old) own place row form w writes word }
     {
         let verdict = csr::verdict(self.context(regs), row, writes);
+        // not by `settle`: what comes of it is an answer over lent registers, and no step
         match event::stops(passed, own, verdict) {
             Ok(()) => {
                 let to = table::kept::reach(place, self.v == 1);
@@ -185,6 +186,7 @@ impl Hart {
         }
     }
 
+    // Each is an instruction, and C's call of each goes by its own.
     pub fn read(self, number: u64, word: u32) -> Accessed
         ensures { result ≡ read self number word }
     {

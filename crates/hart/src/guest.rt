@@ -108,6 +108,7 @@ impl Hart {
     {
         let c = self.context();
         let own = o.check(base, bytes.len() as u64, width);
+        // not by `settle`: what comes of it has a list of reads
         match event::stops(self.passes(), own, instructions::hypervisor_access(c)) {
             Ok(()) => self.arrive(o.walk(c, self.paging(), base, bytes, address, width)),
             Err(halt) => unwalked(self.halt(halt, word)),

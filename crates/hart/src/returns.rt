@@ -52,6 +52,7 @@ impl Hart {
         self.return_hs()
     }
 
+    // Each is an instruction, and C's call of each goes by its own.
     pub fn mret(self, word: u32) -> Step
         ensures { result ≡ mret self word }
     {

@@ -13,6 +13,7 @@ impl Hart {
         self.settle(Ok(()), verdict, word, |h| h.moved().done())
     }
 
+    // Each is an instruction, and C's call of each goes by its own.
     pub fn wfi(self, word: u32) -> Step
         ensures { result ≡ wfi self word }
     {

@@ -9,6 +9,7 @@ use bits::Field;
 use privilege::{Context, Mode, Verdict};
 use registers::fields::{HU, TSR, TVM, TW, VTSR, VTVM, VTW};
 
+// Two rules: one function of both would take the modes and the status word at each call.
 // U, and HS with a control of mstatus set.
 fn illegal_with(control: Field, c: Context) -> bool
     requires { Fits control }

@@ -149,7 +149,7 @@ pub fn misfit(hart: usize, out: usize, size: usize) -> bool
     hart != HART || out != size
 }
 
-// Writes a result and returns 0. Where a length is wrong, that of the hart's slice (given) or the result's, it writes nothing and returns 1.
+// Writes a result and returns 0, a number since it is what C's call returns. Where a length is wrong, that of the hart's slice (given) or the result's, it writes nothing and returns 1.
 pub fn put<T: Words>(x: &T, given: usize, out: &mut [u64]) -> u64
     ensures { (result, out.new) ≡ put given T.SIZE out.old (T.written x.now) }
 {

@@ -25,7 +25,7 @@ pub struct Context {
     pub hstatus: u64,
 }
 
-// What an instruction gives: cause 2 (illegal instruction), else 22 (virtual instruction), else neither.
+// What an instruction gives: cause 2 (illegal instruction), else 22 (virtual instruction), else neither. (The rules say the two apart, and both may hold.)
 #[derive(Clone, Copy)]
 pub struct Verdict {
     pub gives2: bool,

@@ -12,7 +12,7 @@ use exceptions::Exception;
 use image::Image;
 use rules::{Judgement, Test};
 
-// What a stage or the whole walk came to, and the index behind the words of its reads.
+// What a stage or the whole walk came to, and the index behind the words of its reads (by value: behind a reference it would be stored at each read).
 #[derive(Clone, Copy)]
 pub struct Progress {
     pub next: usize,
@@ -106,6 +106,7 @@ pub fn walk<'a>(
         };
     }
     let t = test(a, left);
+    // no range counts these turns: the level falls where an entry is a pointer
     let mut level = levels - 1;
     let mut at = a.second.ppn * 4096 + 8 * rules::root_index(levels, address);
     loop {

@@ -20,7 +20,7 @@ use translate::Answer;
 
 pub mod position;
 
-// Where a walk stands: before an entry of the image, or at its end.
+// Where a walk stands: before an entry of the image, or at its end. (What a place holds, and neither a failure nor a lack: no Result.)
 #[derive(Clone, Copy)]
 pub enum State {
     Going(Position),

@@ -41,7 +41,7 @@ const HGEIP: usize = 40;
 // So many S registers stand first in the table, and behind them as many VS registers, each in the place of its S register.
 const S_ROWS: usize = 9;
 
-// By row: the place of its bits. (An array that is indexed by a variable is written out first: these are bytes.) hgeie and hgeip have none.
+// By row: the place of its bits. (Apart from the table, whose rows are fixed as number, level, read-only flag and mask.) (An array that is indexed by a variable is written out first: these are bytes.) hgeie and hgeip have none.
 const HOMES: [u8; ROWS] = [
     places::MSTATUS as u8,
     places::MIE as u8,

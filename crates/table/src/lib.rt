@@ -43,6 +43,7 @@ pub struct Row {
 }
 
 // What a search found, a place and the row that stands there, and the places that it looked at, so many of them, in their order; the rest are zero.
+// (By value, as the list of reads is.)
 #[derive(Clone, Copy)]
 pub struct Searched {
     pub found: Option<(usize, Row)>,
@@ -356,6 +357,7 @@ fn halve(rows: [Row; QUARTER], first: usize, end: usize, half: usize, n: u64) ->
     let mut looked: usize = 2;
     let mut low = first;
     let mut high = end;
+    // `binary_search_by` tells no places that it looked at
     while low < high {
         let middle = (low + high) / 2;
         let row = rows[middle - first];

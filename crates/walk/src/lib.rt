@@ -13,7 +13,7 @@ use exceptions::Exception;
 use image::Image;
 use stages::{PLACES, Read};
 
-// What a walk comes to: the list of reads with their count, and its end.
+// What a walk comes to: the list of reads with their count, and its end. (The list is by value, of so many places, the rest zero: it is answered so.)
 #[derive(Clone, Copy)]
 pub struct Walked {
     pub reads: [Read; PLACES],
