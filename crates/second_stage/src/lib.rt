@@ -12,7 +12,7 @@ use exceptions::Exception;
 use image::Image;
 use rules::{Judgement, Test};
 
-// What a stage or the whole walk came to, and the index behind the words of its reads (by value: behind a reference it would be stored at each read).
+// What a stage or the whole walk came to, and the index behind the words of its reads.
 #[derive(Clone, Copy)]
 pub struct Progress {
     pub next: usize,
