@@ -39,9 +39,9 @@ pub fn verdict(c: Context, row: Row, writes: bool) -> Verdict
     let satp = row.number == 0x180;
     let tvm = (TVM.get(c.mstatus) == 1) & (satp | (row.number == 0x680));
     let vtvm = (VTVM.get(c.hstatus) == 1) & satp;
-    let host = c.is(Mode::U) | (c.is(Mode::HS) & ((row.level == Level::Machine) | tvm));
-    let guest = (c.v == 1) & (row.level == Level::Machine);
-    let vs = c.is(Mode::VS) & (vtvm | (row.level == Level::Hypervisor));
+    let host = c.is(Mode::U) | (c.is(Mode::HS) & ((row.level == Level::MACHINE) | tvm));
+    let guest = (c.v == 1) & (row.level == Level::MACHINE);
+    let vs = c.is(Mode::VS) & (vtvm | (row.level == Level::HYPERVISOR));
     Verdict {
         gives2: (writes & row.read_only) | (host | guest),
         gives22: vs | c.is(Mode::VU),

@@ -1,4 +1,4 @@
--- "Bad input is refused with a number": the number of each refusal.
+-- Bad input is refused with a number: that of each refusal.
 use Rattle.std.specs.Prelude.{ℕ}
 use Rattle.exceptions.specs.declared.Refusal.{Refusal}
 use Rattle.exceptions.specs.declared.Refusal.TheVariants.{Image, Hart, Access, Request, Register, Place}

@@ -1,8 +1,9 @@
 // What an event comes to, and the order in which it is settled.
-ghost use Rattle.std.specs.Prelude.{◌≡◌, length};
+ghost use Rattle.std.specs.Prelude.{◌≡◌, Err, length};
 ghost use Rattle.registers.specs.Places.{kept};
 ghost use Rattle.hart.specs.declared.state.Hart.{Hart};
 ghost use Rattle.hart.specs.Hart.{passes};
+ghost use Rattle.hart.specs.declared.event.Halt.{Halt};
 ghost use Rattle.hart.specs.declared.event.Halt.TheVariants.{Refuses};
 ghost use Rattle.hart.specs.declared.event.Step.{Step};
 ghost use Rattle.hart.specs.Event.{is_done, done, trapped, plain, halted, stop_of, settled, Gives, next, moved};
@@ -105,6 +106,19 @@ impl Outcome {
     }
 }
 
+impl Ended {
+    // The step, with these registers.
+    pub fn on(self, regs: [u64; places::KEPT]) -> Step
+        ensures { result ≡ step_on self regs }
+    {
+        let Ended { control, outcome } = self;
+        Step {
+            hart: control.on(regs),
+            outcome,
+        }
+    }
+}
+
 impl Control {
     // The trap is delivered.
     fn take_trap(self, t: Exception, regs: &mut [u64; places::KEPT]) -> Ended
@@ -134,7 +148,7 @@ impl Control {
 }
 
 impl Hart {
-    // The trap is delivered. (This and `halt` are by value, like those of `Control`: over lent registers HLV and HSV are slower.)
+    // The trap is delivered. (The lines of `Control`'s stand again here and in `halt`, by value: over lent registers HLV and HSV are slower.)
     pub fn take_trap(self, t: Exception) -> Step
         ensures { result ≡ trapped self t }
     {
@@ -143,6 +157,14 @@ impl Hart {
             hart: taken,
             outcome: Outcome::Trapped(t.cause),
         }
+    }
+
+    // Whether it goes on, with its own refusal and the verdict on its instruction. (Inlined, since a call of it copies the hart.)
+    #[inline(always)]
+    pub fn stops(self, own: Result<(), Refusal>, verdict: Verdict) -> Result<(), Halt>
+        ensures { result ≡ stop_of self own verdict }
+    {
+        stops(self.passes(), own, verdict)
     }
 
     // An event that does not go on.
@@ -169,11 +191,16 @@ impl Hart {
         finish: F,
     ) -> Step
         requires { stop_of self own verdict ≡ Ok tt → F.pre finish self }
-        ensures { (finished : Step) → Gives (F.post finish self) finished → result ≡ settled self own verdict word finished }
+        ensures finishes { (finished : Step) → Gives (F.post finish self) finished → result ≡ settled self own verdict word finished }
+        ensures halts { (halt : Halt) → stop_of self own verdict ≡ Err halt → result ≡ halted self halt word }
     {
-        match stops(self.passes(), own, verdict) {
+        match self.stops(own, verdict) {
             Ok(()) => finish(self),
-            Err(halt) => self.halt(halt, word),
+            Err(halt) => {
+                let mut regs = self.regs;
+                let ended = self.control().halt(halt, word, &mut regs);
+                ended.on(regs)
+            }
         }
     }
 

@@ -2,7 +2,6 @@
 ghost use Rattle.std.specs.Prelude.{◌≡◌};
 ghost use Rattle.hart.specs.Guest.{unwalked, arrives, reach, performed, load, hlv, hlvx, hsv};
 
-use crate::event;
 use crate::event::{Outcome, Step};
 use crate::state::Hart;
 use hypervisor::Operation;
@@ -109,7 +108,7 @@ impl Hart {
         let c = self.context();
         let own = o.check(base, bytes.len() as u64, width);
         // not by `settle`: what comes of it has a list of reads
-        match event::stops(self.passes(), own, instructions::hypervisor_access(c)) {
+        match self.stops(own, instructions::hypervisor_access(c)) {
             Ok(()) => self.arrive(o.walk(c, self.paging(), base, bytes, address, width)),
             Err(halt) => unwalked(self.halt(halt, word)),
         }

@@ -47,6 +47,13 @@ pub fn fetch(base: u64, bytes: &[u8], address: u64) -> Option<u64>
     None
 }
 
+// The first offset at which no entry stands.
+pub fn limit(len: u64) -> u64
+    ensures { result ≡ len - 7 }
+{
+    len.saturating_sub(7)
+}
+
 // An image that a walk reads, with the first offset at which no entry stands.
 #[derive(Clone, Copy)]
 pub struct Image<'a> {
@@ -63,7 +70,7 @@ impl<'a> Image<'a> {
         ensures same_base { result.base ≡ base }
         ensures same_bytes { result.bytes.now ≡ bytes.now }
     {
-        let limit = (bytes.len() as u64).saturating_sub(7);
+        let limit = limit(bytes.len() as u64);
         Image { base, limit, bytes }
     }
 

@@ -3,8 +3,7 @@ ghost use Rattle.std.specs.Prelude.{◌≡◌, ◌*◌, length};
 ghost use Rattle.stages.specs.Listed.{places, read_words};
 ghost use Rattle.layout.specs.Layout.{performed_size, performed_words};
 
-use crate::{ACCESS, Words};
-use hart::accesses::Accessed;
+use crate::{ACCESS, Words, write_access};
 use hart::guest::Performed;
 use stages::{PLACES, Read};
 
@@ -35,14 +34,12 @@ impl Words for Performed {
 
     const SIZE: usize = PERFORMED;
 
+    #[inline(always)]
     fn write_to(&self, out: &mut [u64]) {
-        let accessed = Accessed {
-            hart: self.hart,
-            outcome: self.outcome,
-            value: self.value,
-        };
-        accessed.write_to(&mut out[..ACCESS]);
-        out[ACCESS] = self.count as u64;
-        put_reads(&self.reads, &mut out[LIST_AT..]);
+        if out.len() == PERFORMED {
+            write_access(&self.hart, self.outcome, self.value, &mut out[..ACCESS]);
+            out[ACCESS] = self.count as u64;
+            put_reads(&self.reads, &mut out[LIST_AT..]);
+        }
     }
 }

@@ -9,7 +9,7 @@ ghost use Rattle.hart.specs.Event.{step};
 ghost use Rattle.hart.specs.Access.{access};
 ghost use Rattle.hart.specs.Lent.{on};
 ghost use Rattle.layout.specs.Layout.{hart_size, words, hart_of, outcome_words, step_size, step_words, access_size, access_words};
-ghost use Rattle.layout.specs.Taken.{misfit, put};
+ghost use Rattle.layout.specs.Taken.{misfit, over, put};
 
 use csr::Form;
 use hart::accesses::Accessed;
@@ -55,6 +55,37 @@ pub fn hart_of(ws: &[u64]) -> Hart
     }
 }
 
+// A hart, over a whole slice. (Its registers one by one: `copy_from_slice` calls memmove, which the C library would then have to bring.)
+fn write_hart(hart: &Hart, out: &mut [u64])
+    requires { length out.old ≡ hart_size }
+    ensures { out.new ≡ words hart.now }
+{
+    out[0] = hart.v;
+    out[1] = hart.privilege;
+    out[2] = hart.pc;
+    for i in 0..places::KEPT {
+        out[3 + i] = hart.regs[i];
+    }
+}
+
+// An event's result.
+fn write_step(hart: &Hart, outcome: Outcome, out: &mut [u64])
+    requires { length out.old ≡ step_size }
+    ensures { out.new ≡ step_words (step hart.now outcome) }
+{
+    write_hart(hart, &mut out[..HART]);
+    out[HART..].copy_from_slice(&outcome_words(outcome));
+}
+
+// A register access's result.
+fn write_access(hart: &Hart, outcome: Outcome, value: u64, out: &mut [u64])
+    requires { length out.old ≡ access_size }
+    ensures { out.new ≡ step_words (step hart.now outcome) ++ (value ∷ []) }
+{
+    write_step(hart, outcome, &mut out[..STEP]);
+    out[STEP] = value;
+}
+
 // What is written as words.
 pub trait Words {
     // How many, and which.
@@ -64,10 +95,9 @@ pub trait Words {
 
     const SIZE: usize;
 
-    // Writes them over a whole slice.
+    // Writes them over a slice of so many words; one of another length stays as it is.
     fn write_to(&self, out: &mut [u64])
-        requires { length out.old ≡ SIZE }
-        ensures { out.new ≡ written self.now };
+        ensures { out.new ≡ over SIZE out.old (written self.now) };
 }
 
 impl Words for Hart {
@@ -78,10 +108,9 @@ impl Words for Hart {
     const SIZE: usize = HART;
 
     fn write_to(&self, out: &mut [u64]) {
-        out[0] = self.v;
-        out[1] = self.privilege;
-        out[2] = self.pc;
-        out[3..].copy_from_slice(&self.regs);
+        if out.len() == HART {
+            write_hart(self, out);
+        }
     }
 }
 
@@ -105,8 +134,9 @@ impl Words for Step {
     const SIZE: usize = STEP;
 
     fn write_to(&self, out: &mut [u64]) {
-        self.hart.write_to(&mut out[..HART]);
-        out[HART..].copy_from_slice(&outcome_words(self.outcome));
+        if out.len() == STEP {
+            write_step(&self.hart, self.outcome, out);
+        }
     }
 }
 
@@ -119,12 +149,9 @@ impl Words for Accessed {
     const SIZE: usize = ACCESS;
 
     fn write_to(&self, out: &mut [u64]) {
-        let step = Step {
-            hart: self.hart,
-            outcome: self.outcome,
-        };
-        step.write_to(&mut out[..STEP]);
-        out[STEP] = self.value;
+        if out.len() == ACCESS {
+            write_access(&self.hart, self.outcome, self.value, out);
+        }
     }
 }
 
@@ -137,7 +164,9 @@ impl Words for bool {
     const SIZE: usize = 1;
 
     fn write_to(&self, out: &mut [u64]) {
-        out[0] = u64::from(*self);
+        if out.len() == 1 {
+            out[0] = u64::from(*self);
+        }
     }
 }
 
@@ -150,6 +179,8 @@ pub fn misfit(hart: usize, out: usize, size: usize) -> bool
 }
 
 // Writes a result and returns 0, a number since it is what C's call returns. Where a length is wrong, that of the hart's slice (given) or the result's, it writes nothing and returns 1.
+// (Inlined, as the words of `Performed` are: what a call gets is then written where it stands, and not copied with its list before.)
+#[inline(always)]
 pub fn put<T: Words>(x: &T, given: usize, out: &mut [u64]) -> u64
     ensures { (result, out.new) ≡ put given T.SIZE out.old (T.written x.now) }
 {

@@ -6,4 +6,3 @@ pub mod Looks
 pub mod Listed
 pub mod Columns
 pub mod Twins
-pub mod Levels

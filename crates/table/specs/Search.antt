@@ -4,7 +4,6 @@ use Rattle.std.proofs.lemmas.List.Edits.{sets}
 use Rattle.bits.specs.Field.{pick}
 use Rattle.registers.specs.Registers.{count}
 use Rattle.table.specs.declared.Row.{Row}
-use Rattle.table.specs.declared.Level.TheVariants.{Supervisor}
 use Rattle.table.specs.declared.Searched.{Searched}
 
 -- "no more than eight"
@@ -13,7 +12,7 @@ looks = 8
 
 -- what stands past a table's end
 abbrev pub no_row : Row
-no_row = record { number = 0; level = Supervisor; read_only = false; mask = 0 }
+no_row = record { number = 0; level = record { 0 = 0 }; read_only = false; mask = 0 }
 
 -- the row at a place of any table
 abbrev pub row_at : List Row → ℕ → Row

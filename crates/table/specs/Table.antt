@@ -1,27 +1,22 @@
 -- One constant table of rows, one for each register (document 01), its search, and where each row's bits are kept.
-use Rattle.std.specs.Prelude.{Option, Some, None, Bool, true, false, List, [], ◌∷◌, map, ℕ, suc, ◌+◌, eqb, slice_get}
+use Rattle.std.specs.Prelude.{Option, Some, None, Bool, List, [], ◌∷◌, map, ℕ, suc, ◌+◌, eqb, slice_get}
 use Rattle.bits.specs.Field.{pick, top}
 use Rattle.registers.specs.Views.{View}
 use Rattle.registers.specs.Registers.{supervisor, hypervisor, machine, Register, registers}
 use Rattle.table.specs.declared.Level.{Level}
-use Rattle.table.specs.declared.Level.TheVariants.{Supervisor, Hypervisor, Machine}
 use Rattle.table.specs.declared.Row.{Row}
 use Rattle.table.specs.declared.kept.Kept.{Kept}
 
 -- a level by its number in the list of the registers
 abbrev pub level_of : ℕ → Level
-level_of n = pick (eqb n machine) Machine (pick (eqb n hypervisor) Hypervisor Supervisor)
+level_of n = record { 0 = n }
 
 -- M's; VS's and H's
 abbrev pub is_machine : Level → Bool
-is_machine Supervisor = false
-is_machine Hypervisor = false
-is_machine Machine = true
+is_machine l = eqb l.0 machine
 
 abbrev pub is_hypervisor : Level → Bool
-is_hypervisor Supervisor = false
-is_hypervisor Hypervisor = true
-is_hypervisor Machine = false
+is_hypervisor l = eqb l.0 hypervisor
 
 -- "number, level, read-only flag and stored-bits mask": what the code's table has of a register
 abbrev pub row_of : Register → Row

@@ -26,12 +26,17 @@ const QUARTER: usize = 10;
 // A search looks at no more rows than these.
 pub const LOOKS: usize = 8;
 
-// The level that a number belongs to: S; VS and H; M.
+// The level that a number belongs to, by a number of its own: S; VS and H; M. (No enum of these three: a table that is searched may
+// have any, and with one case more, for the rest, an access takes a third more instructions.)
 #[derive(Clone, Copy, PartialEq, Eq)]
-pub enum Level {
-    Supervisor,
-    Hypervisor,
-    Machine,
+pub struct Level(pub u8);
+
+impl Level {
+    pub const SUPERVISOR: Level = Level(1);
+
+    pub const HYPERVISOR: Level = Level(2);
+
+    pub const MACHINE: Level = Level(3);
 }
 
 #[derive(Clone, Copy)]
@@ -55,287 +60,287 @@ const TABLE: [Row; ROWS] = [
     // sstatus
     Row {
         number: 0x100,
-        level: Level::Supervisor,
+        level: Level::SUPERVISOR,
         read_only: false,
         mask: masks::STATUS,
     },
     // sie
     Row {
         number: 0x104,
-        level: Level::Supervisor,
+        level: Level::SUPERVISOR,
         read_only: false,
         mask: masks::S_INTERRUPTS,
     },
     // stvec
     Row {
         number: 0x105,
-        level: Level::Supervisor,
+        level: Level::SUPERVISOR,
         read_only: false,
         mask: masks::TVEC,
     },
     // sscratch
     Row {
         number: 0x140,
-        level: Level::Supervisor,
+        level: Level::SUPERVISOR,
         read_only: false,
         mask: masks::WORD,
     },
     // sepc
     Row {
         number: 0x141,
-        level: Level::Supervisor,
+        level: Level::SUPERVISOR,
         read_only: false,
         mask: masks::EPC,
     },
     // scause
     Row {
         number: 0x142,
-        level: Level::Supervisor,
+        level: Level::SUPERVISOR,
         read_only: false,
         mask: masks::WORD,
     },
     // stval
     Row {
         number: 0x143,
-        level: Level::Supervisor,
+        level: Level::SUPERVISOR,
         read_only: false,
         mask: masks::WORD,
     },
     // sip
     Row {
         number: 0x144,
-        level: Level::Supervisor,
+        level: Level::SUPERVISOR,
         read_only: false,
         mask: masks::SIP,
     },
     // satp
     Row {
         number: 0x180,
-        level: Level::Supervisor,
+        level: Level::SUPERVISOR,
         read_only: false,
         mask: masks::WORD,
     },
     // vsstatus
     Row {
         number: 0x200,
-        level: Level::Hypervisor,
+        level: Level::HYPERVISOR,
         read_only: false,
         mask: masks::STATUS,
     },
     // vsie
     Row {
         number: 0x204,
-        level: Level::Hypervisor,
+        level: Level::HYPERVISOR,
         read_only: false,
         mask: masks::S_INTERRUPTS,
     },
     // vstvec
     Row {
         number: 0x205,
-        level: Level::Hypervisor,
+        level: Level::HYPERVISOR,
         read_only: false,
         mask: masks::TVEC,
     },
     // vsscratch
     Row {
         number: 0x240,
-        level: Level::Hypervisor,
+        level: Level::HYPERVISOR,
         read_only: false,
         mask: masks::WORD,
     },
     // vsepc
     Row {
         number: 0x241,
-        level: Level::Hypervisor,
+        level: Level::HYPERVISOR,
         read_only: false,
         mask: masks::EPC,
     },
     // vscause
     Row {
         number: 0x242,
-        level: Level::Hypervisor,
+        level: Level::HYPERVISOR,
         read_only: false,
         mask: masks::WORD,
     },
     // vstval
     Row {
         number: 0x243,
-        level: Level::Hypervisor,
+        level: Level::HYPERVISOR,
         read_only: false,
         mask: masks::WORD,
     },
     // vsip
     Row {
         number: 0x244,
-        level: Level::Hypervisor,
+        level: Level::HYPERVISOR,
         read_only: false,
         mask: masks::VSIP,
     },
     // vsatp
     Row {
         number: 0x280,
-        level: Level::Hypervisor,
+        level: Level::HYPERVISOR,
         read_only: false,
         mask: masks::WORD,
     },
     // mstatus
     Row {
         number: 0x300,
-        level: Level::Machine,
+        level: Level::MACHINE,
         read_only: false,
         mask: masks::MSTATUS,
     },
     // medeleg
     Row {
         number: 0x302,
-        level: Level::Machine,
+        level: Level::MACHINE,
         read_only: false,
         mask: masks::MEDELEG,
     },
     // mideleg
     Row {
         number: 0x303,
-        level: Level::Machine,
+        level: Level::MACHINE,
         read_only: false,
         mask: masks::S_INTERRUPTS,
     },
     // mie
     Row {
         number: 0x304,
-        level: Level::Machine,
+        level: Level::MACHINE,
         read_only: false,
         mask: masks::INTERRUPTS,
     },
     // mtvec
     Row {
         number: 0x305,
-        level: Level::Machine,
+        level: Level::MACHINE,
         read_only: false,
         mask: masks::TVEC,
     },
     // mscratch
     Row {
         number: 0x340,
-        level: Level::Machine,
+        level: Level::MACHINE,
         read_only: false,
         mask: masks::WORD,
     },
     // mepc
     Row {
         number: 0x341,
-        level: Level::Machine,
+        level: Level::MACHINE,
         read_only: false,
         mask: masks::EPC,
     },
     // mcause
     Row {
         number: 0x342,
-        level: Level::Machine,
+        level: Level::MACHINE,
         read_only: false,
         mask: masks::WORD,
     },
     // mtval
     Row {
         number: 0x343,
-        level: Level::Machine,
+        level: Level::MACHINE,
         read_only: false,
         mask: masks::WORD,
     },
     // mip
     Row {
         number: 0x344,
-        level: Level::Machine,
+        level: Level::MACHINE,
         read_only: false,
         mask: masks::MIP,
     },
     // mtinst
     Row {
         number: 0x34a,
-        level: Level::Machine,
+        level: Level::MACHINE,
         read_only: false,
         mask: masks::WORD,
     },
     // mtval2
     Row {
         number: 0x34b,
-        level: Level::Machine,
+        level: Level::MACHINE,
         read_only: false,
         mask: masks::WORD,
     },
     // hstatus
     Row {
         number: 0x600,
-        level: Level::Hypervisor,
+        level: Level::HYPERVISOR,
         read_only: false,
         mask: masks::HSTATUS,
     },
     // hedeleg
     Row {
         number: 0x602,
-        level: Level::Hypervisor,
+        level: Level::HYPERVISOR,
         read_only: false,
         mask: masks::HEDELEG,
     },
     // hideleg
     Row {
         number: 0x603,
-        level: Level::Hypervisor,
+        level: Level::HYPERVISOR,
         read_only: false,
         mask: masks::VS_INTERRUPTS,
     },
     // hie
     Row {
         number: 0x604,
-        level: Level::Hypervisor,
+        level: Level::HYPERVISOR,
         read_only: false,
         mask: masks::VS_INTERRUPTS,
     },
     // hgeie
     Row {
         number: 0x607,
-        level: Level::Hypervisor,
+        level: Level::HYPERVISOR,
         read_only: false,
         mask: 0,
     },
     // htval
     Row {
         number: 0x643,
-        level: Level::Hypervisor,
+        level: Level::HYPERVISOR,
         read_only: false,
         mask: masks::WORD,
     },
     // hip
     Row {
         number: 0x644,
-        level: Level::Hypervisor,
+        level: Level::HYPERVISOR,
         read_only: false,
         mask: masks::HIP,
     },
     // hvip
     Row {
         number: 0x645,
-        level: Level::Hypervisor,
+        level: Level::HYPERVISOR,
         read_only: false,
         mask: masks::VS_INTERRUPTS,
     },
     // htinst
     Row {
         number: 0x64a,
-        level: Level::Hypervisor,
+        level: Level::HYPERVISOR,
         read_only: false,
         mask: masks::WORD,
     },
     // hgatp
     Row {
         number: 0x680,
-        level: Level::Hypervisor,
+        level: Level::HYPERVISOR,
         read_only: false,
         mask: masks::HGATP,
     },
     // hgeip
     Row {
         number: 0xe12,
-        level: Level::Hypervisor,
+        level: Level::HYPERVISOR,
         read_only: true,
         mask: 0,
     },

@@ -1,3 +1,5 @@
+use mathlib.Core.Path.{◌∙◌}
+use borrow.Author.Tests.{eq-eqb}
 use Rattle.layout.specs.Taken.{put}
 use Rattle.layout.proofs.put.Goals as goal
 
@@ -7,4 +9,4 @@ returns-then-misfit g c = rw (← c.SIZE.ensures, ← c.misfit.ensures.test, c.i
 
 pub returns : goal.returns
 unfolding put
-returns g c = rw (← c.SIZE.ensures, ← c.misfit.ensures.test, c.if-misfit.false, c.write_to.ensures)
+returns g c = rw (← c.SIZE.ensures, ← c.misfit.ensures.test, c.if-misfit.false, c.write_to.ensures, eq-eqb _ _ (c.if-misfit.ensures.fits.1 ∙ c.SIZE.ensures))

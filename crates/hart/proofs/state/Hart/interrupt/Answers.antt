@@ -6,4 +6,4 @@ use Rattle.hart.proofs.state.Hart.interrupt.Goals as goal
 
 pub returns : goal.returns
 unfolding interrupt
-returns c = let h = c.args.self in c.settle.ensures (taking h (chosen (context h) (lines h))) (λ s e. search rules)
+returns c = let h = c.args.self in c.settle.ensures.finishes (taking h (chosen (context h) (lines h))) (λ s e. search rules)

@@ -5,4 +5,4 @@ use Rattle.hart.proofs.state.Hart.mret.Goals as goal
 
 pub returns : goal.returns
 unfolding mret
-returns c = rw (c.mret.ensures, c.context.ensures) at c.settle.ensures (done (returned_m c.args.self)) (λ s e. search rules)
+returns c = rw (c.mret.ensures, c.context.ensures) at c.settle.ensures.finishes (done (returned_m c.args.self)) (λ s e. search rules)

@@ -5,4 +5,4 @@ use Rattle.hart.proofs.state.Hart.sret.Goals as goal
 
 pub returns : goal.returns
 unfolding sret
-returns c = rw (c.sret.ensures, c.context.ensures) at c.settle.ensures (done (returned_s c.args.self)) (λ s e. search rules)
+returns c = rw (c.sret.ensures, c.context.ensures) at c.settle.ensures.finishes (done (returned_s c.args.self)) (λ s e. search rules)
